@@ -1,4 +1,5 @@
-//! The program `l2tp`: `replay` runs a schedule over both ends of L2TP tunnels and writes its report, and `make` draws one from a seed.
+//! The program `l2tp`: `replay` runs a schedule over both ends of L2TP tunnels and writes its report, `make` draws one from a seed, and `node`
+//! runs one end over UDP.
 //!
 //! `main` makes the real objects and calls a top call, which carries the theorem.
 #![tactic(auto)]
@@ -6,12 +7,14 @@
 mod answer;
 mod exit;
 mod making;
+mod node;
 mod texts;
 mod top;
 mod words;
 
 use crate::exit::Exit;
 use crate::making::make_top;
+use crate::node::run_node;
 use crate::texts::VERSION;
 use crate::top::replay_top;
 use node_command::{Answered, answer_words};
@@ -33,7 +36,7 @@ fn command_words(rt: &HostRuntime) -> Result<Vec<String>, Exit> {
     }
 }
 
-/// The exit of `node` or `pool`.
+/// The exit of `pool`.
 fn exit_of(answered: Answered) -> Exit {
     match answered {
         Answered::Told => Exit::Ok,
@@ -43,28 +46,30 @@ fn exit_of(answered: Answered) -> Exit {
     }
 }
 
-/// Does what the words ask for. The first one tells which call is made.
-fn run(rt: &HostRuntime, words: &[String]) -> Exit {
+/// Does what the words ask for, and gives the status of the process. The first word tells which call is made.
+fn run(rt: &HostRuntime, words: &[String]) -> u8 {
     let mut sink = StdSink::new(rt.stdout());
     let first = match words.first() {
         Some(word) => word.as_str(),
         None => "",
     };
     if first == "make" {
-        make_top(rt.alloc(), words, &mut sink)
-    } else if first == "node" || first == "pool" {
+        make_top(rt.alloc(), words, &mut sink).status()
+    } else if first == "node" {
+        run_node(rt, words)
+    } else if first == "pool" {
         let mut err = StdSink::new(rt.stderr());
-        exit_of(answer_words(rt.alloc(), words, VERSION, &mut sink, &mut err))
+        exit_of(answer_words(rt.alloc(), words, VERSION, &mut sink, &mut err)).status()
     } else {
         let mut source = StdSource::new(rt.stdin());
-        replay_top(rt.alloc(), words, &mut source, &mut sink)
+        replay_top(rt.alloc(), words, &mut source, &mut sink).status()
     }
 }
 
 fn main(rt: HostRuntime) -> ExitCode {
-    let exit = match command_words(&rt) {
+    let status = match command_words(&rt) {
         Ok(words) => run(&rt, words.as_slice()),
-        Err(exit) => exit,
+        Err(exit) => exit.status(),
     };
-    ExitCode::from(exit.status())
+    ExitCode::from(status)
 }

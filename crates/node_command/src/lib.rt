@@ -1,4 +1,5 @@
-//! What `l2tp node` and `l2tp pool` answer as long as no end runs over ports: their help, how they are used, or that they can't be run yet.
+//! What `l2tp pool` answers as long as no pool runs: its help, how it is used, or that it can't be run yet. It has the same for `l2tp node`,
+//! whose words another crate runs.
 #![tactic(auto)]
 
 mod answering;

@@ -6,10 +6,12 @@ mod end;
 mod events;
 mod faults;
 mod lending;
+mod opening;
 mod outs;
 mod turns;
 
 pub use end::{NodeEnd, NodeStop};
 pub use faults::NodeFault;
 pub use lending::Counts;
+pub use opening::NodeUnopened;
 pub use turns::{node_serve, node_turn};

@@ -1,0 +1,142 @@
+//! A node over the system's ports and a file.
+
+use crate::texts::VERSION;
+use block_source::{generator_of_file, seeded};
+use file_disk::FileDisk;
+use node_top::{NodeExit, node_top};
+use node_words::{Plan, read_plan};
+use port_traits::{StdSink, write_all};
+use rand_chacha::ChaCha20Rng;
+use real_ports::{RestingClock, StdClock, UdpLink, Watch, Watched};
+use std::alloc::Global;
+use std::net::Net;
+use stream_ports::{UnixEther, UnixUplink};
+use wire_base::NoMemory;
+
+/// For how many milliseconds a node may rest where nothing came.
+const REST: i32 = 10;
+
+/// The status where the seed can't be read.
+const SEED_FAULT: u8 = 14;
+
+/// The Ethernet port at a path, where there is one.
+fn ether_at<'a, R: Net + Drop>(
+    alloc: Global,
+    system: R,
+    watch: &'a Watch,
+    path: Option<String>,
+) -> Result<Option<Watched<'a, UnixEther<R>>>, NoMemory> {
+    match path {
+        None => Ok(None),
+        Some(path) => {
+            let port = UnixEther::new(alloc, system, path)?;
+            Ok(Some(watch.ether(port)))
+        }
+    }
+}
+
+/// The uplink at a path, where there is one.
+fn uplink_at<'a, R: Net + Drop>(
+    alloc: Global,
+    system: R,
+    watch: &'a Watch,
+    path: Option<String>,
+) -> Result<Option<Watched<'a, UnixUplink<R>>>, NoMemory> {
+    match path {
+        None => Ok(None),
+        Some(path) => {
+            let port = UnixUplink::new(alloc, system, path)?;
+            Ok(Some(watch.uplink(port)))
+        }
+    }
+}
+
+/// Where the real objects of a node are.
+#[derive(Drop)]
+struct Places {
+    listen: u32,
+    port: u16,
+    store: String,
+    ether: Option<String>,
+    uplink: Option<String>,
+}
+
+/// Runs the words over the objects at these places. Each is opened at its first call, so that words without a plan touch none.
+fn run_over(rt: &HostRuntime, words: &[String], places: Places, generator: ChaCha20Rng) -> u8 {
+    let alloc = rt.alloc();
+    let watch = Watch::new();
+    let Ok(mut ether) = ether_at(alloc, rt, &watch, places.ether) else {
+        return NodeExit::NoMemory.status();
+    };
+    let Ok(mut uplink) = uplink_at(alloc, rt, &watch, places.uplink) else {
+        return NodeExit::NoMemory.status();
+    };
+    let mut link = watch.link(UdpLink::new(rt, places.listen, places.port));
+    let mut disk = FileDisk::new(rt, places.store);
+    let mut clock = RestingClock::new(StdClock::new(rt), &watch, REST);
+    let mut generator = generator;
+    let mut sink = StdSink::new(rt.stdout());
+    node_top(
+        alloc,
+        words,
+        VERSION,
+        &mut link,
+        &mut ether,
+        &mut uplink,
+        &mut disk,
+        &mut clock,
+        &mut generator,
+        &mut sink,
+    )
+    .status()
+}
+
+/// Tells that the seed can't be read.
+fn tell_seed_fault(rt: &HostRuntime) -> u8 {
+    let mut sink = StdSink::new(rt.stdout());
+    match write_all(&mut sink, b"seed fault\n") {
+        Ok(()) => SEED_FAULT,
+        Err(_) => NodeExit::WriteFault.status(),
+    }
+}
+
+/// Runs the plan of the words, with a generator that is seeded by 32 bytes of the plan's file.
+fn run_plan(rt: &HostRuntime, words: &[String], plan: Plan) -> u8 {
+    let seed = match &plan.seed {
+        Some(path) => path.as_str(),
+        None => "/dev/urandom",
+    };
+    match generator_of_file(rt, seed) {
+        Err(_) => tell_seed_fault(rt),
+        Ok(generator) => {
+            let places = Places {
+                listen: plan.listen,
+                port: plan.port,
+                store: plan.store,
+                ether: plan.ether,
+                uplink: plan.uplink,
+            };
+            run_over(rt, words, places, generator)
+        }
+    }
+}
+
+/// Answers words that are no plan, over objects that aren't used.
+fn answer(rt: &HostRuntime, words: &[String]) -> u8 {
+    let places = Places {
+        listen: 0,
+        port: 0,
+        store: String::new(rt.alloc()),
+        ether: None,
+        uplink: None,
+    };
+    run_over(rt, words, places, seeded([0u8; 32]))
+}
+
+/// Runs the node that the words ask for, and gives the status of the process.
+pub(crate) fn run_node(rt: &HostRuntime, words: &[String]) -> u8 {
+    match read_plan(rt.alloc(), words) {
+        Ok(plan) => run_plan(rt, words, plan),
+        Err(_) => answer(rt, words),
+    }
+}

@@ -1,0 +1,61 @@
+-- The parts of a run, put together.
+use Rattle.std.proofs.Common.{◌≡◌, ℕ, Bool, List, refl, ap, subst}
+use Rattle.std.specs.Prelude.{Option, option_map}
+use Rattle.rand_core.specs.Stream.{Stream, fill_bytes}
+use Rattle.disk_core.specs.Disk.{Held}
+use Rattle.port_traits.specs.declared.packets.Datagram.{Datagram}
+use Rattle.port_traits.specs.declared.packets.LowerFrame.{LowerFrame}
+use Rattle.port_traits.specs.Packets.{Moments, passed}
+use Rattle.port_events.specs.declared.end.Event.{Event}
+use Rattle.port_events.specs.declared.end.Out.{Out}
+use Rattle.port_events.specs.Feeding.{Given, Goes}
+use Rattle.port_turn.specs.Turns.{Waits, Asked, waits, asked}
+use Rattle.port_turn.specs.Runs.{Node, node}
+use Rattle.end_model.specs.declared.tunnel.Config.{Config}
+use Rattle.node_words.specs.Plans.{Planned}
+use Rattle.node_run.specs.declared.end.NodeEnd.{NodeEnd}
+use Rattle.node_run.specs.declared.lending.Counts.{Counts}
+use Rattle.node_run.specs.Opening.{NodeOpens}
+use Rattle.node_run.specs.Serves.{Serves}
+use Rattle.node_run.specs.Steps.{running, NodeSteps}
+use Rattle.node_top.specs.Runs.{config_of, no_counts, Outside, GivesAndServes, Ran}
+
+pub same_waits : (l k : Option (List Datagram)) (e f : Option (List (List ℕ))) (u v : Option (List LowerFrame)) → l ≡ k → e ≡ f → u ≡ v → waits l e u ≡ waits k f v
+same_waits l k e f u v link ether up = rw (link, ether, up) refl
+
+pub same_asked : (l k e f u v : Option ℕ) → l ≡ k → e ≡ f → u ≡ v → asked l e u ≡ asked k f v
+same_asked l k e f u v link ether up = rw (link, ether, up) refl
+
+-- what a start gives goes out, and nothing else of the ports changes by that
+pub served_behind : {S : Type 0} (steps : S → ℕ → List ℕ → Event → List Out → S → Type 0) (opens : Bool) (turns : ℕ) (outs : List Out) (old new : Node S) (mid : Given) (w : Waits) (a : Asked)
+    → Goes old.given mid outs → w ≡ old.waits → a ≡ old.asked → Serves steps opens turns (node old.stream old.clock old.end mid w a) new → GivesAndServes steps opens turns outs old new
+served_behind {S} steps opens turns outs old new mid w a gave waiting asking serves = record {
+  mid = mid;
+  gave = gave;
+  serves = subst (λ (x : Waits). Serves steps opens turns (node old.stream old.clock old.end mid x old.asked) new) waiting
+      (subst (λ (x : Asked). Serves steps opens turns (node old.stream old.clock old.end mid w x) new) asking serves);
+}
+
+pub ran_so : {D : Type 0} (holds : D → Option Held) (reach calls_left faults : D → ℕ) (p : Planned) (counts : Counts) (disk mid now : D) (old new : Outside) (opened end : NodeEnd)
+    (outs : List Out) (config : Config) (key : List ℕ) (stream : Stream) (clock : Option Moments) → config ≡ config_of p → (key, stream) ≡ fill_bytes 16 old.stream
+    → clock ≡ option_map passed old.clock → NodeOpens holds reach calls_left faults p.identity.lac config key disk mid opened outs
+    → GivesAndServes (NodeSteps holds reach calls_left faults) p.texts.opens p.numbers.turns outs
+    (node stream clock (running opened mid no_counts) old.given old.waits old.asked) (node new.stream new.clock (running end now counts) new.given new.waits new.asked)
+    → Ran holds reach calls_left faults p counts disk now old new
+ran_so {D} holds reach calls_left faults p counts disk mid now old new opened end outs config key stream clock configured drawn passes opens serves =
+    let first : key ≡ (fill_bytes 16 old.stream).0 = ap (λ (x : List ℕ × Stream). x.0) drawn in
+    let later : stream ≡ (fill_bytes 16 old.stream).1 = ap (λ (x : List ℕ × Stream). x.1) drawn in
+    record {
+      opened = opened;
+      mid = mid;
+      outs = outs;
+      opens = subst (λ (c : Config). NodeOpens holds reach calls_left faults p.identity.lac c (fill_bytes 16 old.stream).0 disk mid opened outs) configured
+          (subst (λ (k : List ℕ). NodeOpens holds reach calls_left faults p.identity.lac config k disk mid opened outs) first opens);
+      end = end;
+      serves = subst (λ (x : Stream). GivesAndServes (NodeSteps holds reach calls_left faults) p.texts.opens p.numbers.turns outs
+          (node x (option_map passed old.clock) (running opened mid no_counts) old.given old.waits old.asked)
+          (node new.stream new.clock (running end now counts) new.given new.waits new.asked)) later
+          (subst (λ (x : Option Moments). GivesAndServes (NodeSteps holds reach calls_left faults) p.texts.opens p.numbers.turns outs
+          (node stream x (running opened mid no_counts) old.given old.waits old.asked)
+          (node new.stream new.clock (running end now counts) new.given new.waits new.asked)) passes serves);
+    }

@@ -1,0 +1,50 @@
+-- How a node ends, by its words and its run, and what the sink was given.
+use Rattle.std.specs.Prelude.{◌≡◌, ◌⊎◌, ℕ, Bool, true, false, List, take, codes, Option, Some, None, Result, Ok, Err, IfOk}
+use Rattle.std.specs.Io.KnownBytes.{Appends}
+use Rattle.wire_base.specs.Causes.{Rose}
+use Rattle.node_words.specs.Plans.{Planned}
+use Rattle.node_run.specs.declared.lending.Counts.{Counts}
+use Rattle.node_run.specs.Faults.{Faults}
+use Rattle.node_top.specs.declared.exit.NodeExit.{NodeExit}
+use Rattle.node_top.specs.declared.exit.NodeExit.TheVariants as exits
+use Rattle.node_top.specs.Texts.{counts_text, exit_text}
+use Rattle.node_top.specs.Runs.{RunBlames}
+
+-- the faults of the sink, and what it took
+pub record Sunk : Type 0 where
+  pub faults : ℕ
+  pub taken : Option (List ℕ)
+
+abbrev pub sunk : ℕ → Option (List ℕ) → Sunk
+sunk faults taken = record { faults = faults; taken = taken }
+
+-- a text was written with its exit, or the sink failed and took a prefix of the text
+abbrev pub Tells : NodeExit → NodeExit → List ℕ → Sunk → Sunk → Type 0
+Tells result e text old new =
+    ((result ≡ e) × (new.faults ≡ old.faults) × Appends old.taken new.taken text)
+    ⊎ ((result ≡ exits.WriteFault) × Rose old.faults new.faults × ((n : ℕ) × Appends old.taken new.taken (take n text)))
+
+-- memory was wanting, and nothing was written
+abbrev pub Lacks : NodeExit → Sunk → Sunk → Type 0
+Lacks result old new = (result ≡ exits.NoMemory) × (new ≡ old)
+
+-- of a run that made all its turns the three lines with its counts were written, of another one the line that tells why; or memory was
+-- wanting for that
+abbrev pub Finishes : Result Counts NodeExit → NodeExit → Sunk → Sunk → Type 0
+Finishes (Ok counts) result old new = Tells result exits.Ok (counts_text counts) old new ⊎ Lacks result old new
+Finishes (Err exit) result old new = Tells result exit (exit_text exit) old new ⊎ Lacks result old new
+
+-- a plan was run, and this was written of it
+pub record RunsPlan (IsRun : Counts → Type 0) (result : NodeExit) (sink sink' : Sunk) (old new : Faults) : Type 0 where
+  pub ran : Result Counts NodeExit
+  pub is_run : IfOk ran IsRun
+  pub blames : RunBlames old new ran
+  pub finishes : Finishes ran result sink sink'
+
+-- What comes of the words of a node. Where a text is asked for, it is written, and where there is no plan, how the command is used; then no
+-- disk and no port is touched, and so it is where memory was wanting for the words.
+abbrev pub NodeEnds : (Planned → Counts → Type 0) → Bool → Option Planned → NodeExit → Sunk → Sunk → Faults → Faults → Type 0
+NodeEnds IsRun true plan result sink sink' old new = (text : List ℕ) × Tells result exits.Ok text sink sink' × (new ≡ old)
+NodeEnds IsRun false None result sink sink' old new =
+    (Tells result exits.Usage (codes "usage: l2tp node\n") sink sink' ⊎ Lacks result sink sink') × (new ≡ old)
+NodeEnds IsRun false (Some p) result sink sink' old new = RunsPlan (IsRun p) result sink sink' old new ⊎ (Lacks result sink sink' × (new ≡ old))

@@ -1,0 +1,4 @@
+pub mod Exits
+pub mod Texts
+pub mod Runs
+pub mod Ends

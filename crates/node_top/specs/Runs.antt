@@ -1,0 +1,112 @@
+-- The run of a plan, and why it ends early.
+use Rattle.std.specs.Prelude.{◌≡◌, ℕ, Bool, List, Option, option_map, unwrap_or, Result, Ok, Err}
+use Rattle.rand_core.specs.Stream.{Stream, fill_bytes}
+use Rattle.wire_base.specs.Causes.{Rose}
+use Rattle.disk_core.specs.Disk.{Held}
+use Rattle.port_traits.specs.Packets.{Moments, passed}
+use Rattle.port_events.specs.declared.end.Event.{Event}
+use Rattle.port_events.specs.declared.end.Out.{Out}
+use Rattle.port_events.specs.declared.giving.TurnFault.{TurnFault}
+use Rattle.port_events.specs.declared.giving.TurnFault.TheVariants as turn
+use Rattle.port_events.specs.Feeding.{Given, Goes}
+use Rattle.port_turn.specs.Turns.{Waits, Asked}
+use Rattle.port_turn.specs.Runs.{Node, node}
+use Rattle.end_model.specs.declared.tunnel.Config.{Config}
+use Rattle.stored_ends.specs.declared.stops.OpenStop.TheVariants as opening
+use Rattle.node_words.specs.Plans.{Planned}
+use Rattle.node_run.specs.declared.end.NodeEnd.{NodeEnd}
+use Rattle.node_run.specs.declared.end.NodeStop.{NodeStop}
+use Rattle.node_run.specs.declared.faults.NodeFault.{NodeFault}
+use Rattle.node_run.specs.declared.faults.NodeFault.TheVariants as node_fault
+use Rattle.node_run.specs.declared.lending.Counts.{Counts}
+use Rattle.node_run.specs.declared.opening.NodeUnopened.{NodeUnopened}
+use Rattle.node_run.specs.declared.opening.NodeUnopened.TheVariants.{Shut, Unsent}
+use Rattle.node_run.specs.Faults.{Faults}
+use Rattle.node_run.specs.Opening.{NodeOpens}
+use Rattle.node_run.specs.Serves.{Serves}
+use Rattle.node_run.specs.Steps.{running, NodeSteps}
+use Rattle.node_top.specs.declared.exit.NodeExit.{NodeExit}
+use Rattle.node_top.specs.declared.exit.NodeExit.TheVariants as exits
+
+-- the configuration that a plan asks for: an LNS has no LNS
+abbrev pub config_of : Planned → Config
+config_of p = record {
+  number = p.identity.number;
+  address = p.identity.listen;
+  lns = unwrap_or p.identity.peer 0;
+  secret = p.texts.secret;
+  hide = p.texts.hide;
+}
+
+-- ---- why a run ends early
+
+abbrev pub of_opening : NodeUnopened → NodeExit
+of_opening (Shut (opening.NotJournal at)) = exits.NotJournal at
+of_opening (Shut opening.StoreFault) = exits.StoreFault
+of_opening (Shut (opening.StoreFull records)) = exits.StoreFull records
+of_opening (Shut opening.NoMemory) = exits.NoMemory
+of_opening Unsent = exits.NoMemory
+
+abbrev pub of_turn : TurnFault NodeStop → NodeExit
+of_turn turn.LinkFault = exits.LinkFault
+of_turn turn.EtherFault = exits.EtherFault
+of_turn turn.UplinkFault = exits.UplinkFault
+of_turn turn.NoMemory = exits.NoMemory
+of_turn (turn.Stopped stop) = exits.NoMemory
+
+abbrev pub of_serving : NodeFault → NodeExit
+of_serving node_fault.StoreFault = exits.StoreFault
+of_serving node_fault.LinkFault = exits.LinkFault
+of_serving node_fault.EtherFault = exits.EtherFault
+of_serving node_fault.UplinkFault = exits.UplinkFault
+of_serving (node_fault.StoreFull records) = exits.StoreFull records
+of_serving node_fault.NoMemory = exits.NoMemory
+
+-- a fault of the disk or of a port is told only where the count of that object rose, and the other counts stay; a run tells nothing of words
+-- or of the sink
+abbrev pub RunBlames : {T : Type 0} → Faults → Faults → Result T NodeExit → Type 0
+RunBlames old new (Ok counts) = new ≡ old
+RunBlames old new (Err exits.Ok) = ⊥
+RunBlames old new (Err exits.Usage) = ⊥
+RunBlames old new (Err exits.WriteFault) = ⊥
+RunBlames old new (Err (exits.NotJournal at)) = new ≡ old
+RunBlames old new (Err exits.StoreFault) = Rose old.disk new.disk × (new ≡ record old { disk = new.disk })
+RunBlames old new (Err exits.LinkFault) = Rose old.link new.link × (new ≡ record old { link = new.link })
+RunBlames old new (Err exits.EtherFault) = Rose old.ether new.ether × (new ≡ record old { ether = new.ether })
+RunBlames old new (Err exits.UplinkFault) = Rose old.up new.up × (new ≡ record old { up = new.up })
+RunBlames old new (Err (exits.StoreFull records)) = new ≡ old
+RunBlames old new (Err exits.NoMemory) = new ≡ old
+
+-- ---- a run
+
+abbrev pub no_counts : Counts
+no_counts = record { turns = 0; taken = 0; sent = 0 }
+
+-- what the start of an end gives goes out, and then a tunnel may be opened and turns are made
+pub record GivesAndServes {S : Type 0} (steps : S → ℕ → List ℕ → Event → List Out → S → Type 0) (opens : Bool) (turns : ℕ) (outs : List Out) (old new : Node S) : Type 0 where
+  pub mid : Given
+  pub gave : Goes old.given mid outs
+  pub serves : Serves steps opens turns (record old { given = mid }) new
+
+-- all that is around a node's end but its disk
+pub record Outside : Type 0 where
+  pub stream : Stream
+  pub clock : Option Moments
+  pub given : Given
+  pub waits : Waits
+  pub asked : Asked
+
+abbrev pub outside : Stream → Option Moments → Given → Waits → Asked → Outside
+outside stream clock given waits asked = record { stream = stream; clock = clock; given = given; waits = waits; asked = asked }
+
+-- The run of a plan to its end: the clock is read and the end is opened over what the disk held, with the generator's first block for a key;
+-- then it serves.
+pub record Ran {D : Type 0} (holds : D → Option Held) (reach calls_left faults : D → ℕ) (p : Planned) (counts : Counts) (disk now : D) (old new : Outside) : Type 0 where
+  pub opened : NodeEnd
+  pub mid : D
+  pub outs : List Out
+  pub opens : NodeOpens holds reach calls_left faults p.identity.lac (config_of p) (fill_bytes 16 old.stream).0 disk mid opened outs
+  pub end : NodeEnd
+  pub serves : GivesAndServes (NodeSteps holds reach calls_left faults) p.texts.opens p.numbers.turns outs
+      (node (fill_bytes 16 old.stream).1 (option_map passed old.clock) (running opened mid no_counts) old.given old.waits old.asked)
+      (node new.stream new.clock (running end now counts) new.given new.waits new.asked)

@@ -1,0 +1,163 @@
+//! The run of a plan.
+
+ghost use Rattle.std.specs.Prelude.{◌≡◌, false, IfOk, OnOk};
+ghost use Rattle.port_events.specs.Feeding.{given};
+ghost use Rattle.port_turn.specs.Turns.{waits, asked};
+ghost use Rattle.port_turn.specs.Runs.{node};
+ghost use Rattle.node_words.specs.Plans.{planned};
+ghost use Rattle.node_run.specs.Faults.{faults};
+ghost use Rattle.node_run.specs.Steps.{running, store_of, IsReady, NodeSteps};
+ghost use Rattle.node_top.specs.Runs.{config_of, of_opening, of_turn, of_serving, outside, RunBlames, Ran, GivesAndServes};
+
+use crate::exit::NodeExit;
+use block_source::next_block;
+use disk_core::Disk;
+use end_model::Config;
+use node_run::{Counts, NodeEnd, NodeFault, NodeStop, NodeUnopened, node_serve};
+use node_words::Plan;
+use port_events::{Outputs, TurnFault, give_all};
+use port_traits::{Clock, Ether, Link, Uplink};
+use rand_core::Rng;
+use std::alloc::Global;
+use stored_ends::OpenStop;
+
+/// The configuration that a plan asks for.
+fn config_of(plan: Plan) -> Config
+    ensures { result ≡ config_of (planned plan) }
+{
+    Config {
+        number: plan.number,
+        address: plan.listen,
+        lns: plan.peer.unwrap_or(0),
+        secret: plan.secret,
+        hide: plan.hide,
+    }
+}
+
+/// How a node ends whose end wasn't opened.
+fn of_opening(why: NodeUnopened) -> NodeExit
+    ensures { result ≡ of_opening why }
+{
+    match why {
+        NodeUnopened::Shut {
+            stop: OpenStop::NotJournal { at },
+        } => NodeExit::NotJournal { at },
+        NodeUnopened::Shut {
+            stop: OpenStop::StoreFault,
+        } => NodeExit::StoreFault,
+        NodeUnopened::Shut {
+            stop: OpenStop::StoreFull { records },
+        } => NodeExit::StoreFull { records },
+        NodeUnopened::Shut {
+            stop: OpenStop::NoMemory,
+        }
+        | NodeUnopened::Unsent => NodeExit::NoMemory,
+    }
+}
+
+/// How a node ends of whose start not all goes out.
+fn of_giving(fault: TurnFault<NodeStop>) -> NodeExit
+    ensures { result ≡ of_turn fault }
+{
+    match fault {
+        TurnFault::LinkFault => NodeExit::LinkFault,
+        TurnFault::EtherFault => NodeExit::EtherFault,
+        TurnFault::UplinkFault => NodeExit::UplinkFault,
+        TurnFault::NoMemory | TurnFault::Stopped { .. } => NodeExit::NoMemory,
+    }
+}
+
+/// How a node ends of which a turn ended early.
+fn of_serving(fault: NodeFault) -> NodeExit
+    ensures { result ≡ of_serving fault }
+{
+    match fault {
+        NodeFault::StoreFault => NodeExit::StoreFault,
+        NodeFault::LinkFault => NodeExit::LinkFault,
+        NodeFault::EtherFault => NodeExit::EtherFault,
+        NodeFault::UplinkFault => NodeExit::UplinkFault,
+        NodeFault::StoreFull { records } => NodeExit::StoreFull { records },
+        NodeFault::NoMemory => NodeExit::NoMemory,
+    }
+}
+
+/// What the start of an end gives goes out, and then the node makes its turns.
+fn give_and_serve<L: Link, E: Ether, U: Uplink, D: Disk, C: Clock, R: Rng>(
+    alloc: Global,
+    end: &mut NodeEnd,
+    outs: &Outputs,
+    link: &mut L,
+    ether: &mut E,
+    up: &mut U,
+    disk: &mut D,
+    clock: &mut C,
+    rng: &mut R,
+    turns: u64,
+    opens: bool,
+    counts: &mut Counts,
+) -> Result<(), NodeExit>
+    requires running { (store_of end.old).journal.halted ≡ false }
+    requires room { IsReady D.reach D.calls_left end.old disk.old }
+    ensures served { OnOk result (GivesAndServes (NodeSteps D.holds D.reach D.calls_left D.faults) opens turns outs.now (node (R.stream rng.old) (C.gives clock.old) (running end.old disk.old counts.old) (given (L.given link.old) (E.given ether.old) (U.given up.old)) (waits (L.waiting link.old) (E.waiting ether.old) (U.waiting up.old)) (asked (L.asked link.old) (E.asked ether.old) (U.asked up.old))) (node (R.stream rng.new) (C.gives clock.new) (running end.new disk.new counts.new) (given (L.given link.new) (E.given ether.new) (U.given up.new)) (waits (L.waiting link.new) (E.waiting ether.new) (U.waiting up.new)) (asked (L.asked link.new) (E.asked ether.new) (U.asked up.new)))) }
+    ensures cause { RunBlames (faults (D.faults disk.old) (L.faults link.old) (E.faults ether.old) (U.faults up.old)) (faults (D.faults disk.new) (L.faults link.new) (E.faults ether.new) (U.faults up.new)) result }
+{
+    match give_all(outs, link, ether, up) {
+        Err(fault) => Err(of_giving(fault)),
+        Ok(()) => match node_serve(
+            alloc, end, link, ether, up, disk, clock, rng, turns, opens, counts,
+        ) {
+            Err(fault) => Err(of_serving(fault)),
+            Ok(()) => Ok(()),
+        },
+    }
+}
+
+/// Runs a plan: reads the clock once, opens the end of the plan over the disk, with the generator's first block, lets what its start gives go
+/// out, opens a tunnel where the plan says so, and makes the plan's turns. It gives the counts of these.
+pub(crate) fn run<L: Link, E: Ether, U: Uplink, D: Disk, C: Clock, R: Rng>(
+    alloc: Global,
+    plan: Plan,
+    link: &mut L,
+    ether: &mut E,
+    up: &mut U,
+    disk: &mut D,
+    clock: &mut C,
+    rng: &mut R,
+) -> Result<Counts, NodeExit>
+    ensures ran { IfOk result (λ counts. Ran D.holds D.reach D.calls_left D.faults (planned plan) counts disk.old disk.new (outside (R.stream rng.old) (C.gives clock.old) (given (L.given link.old) (E.given ether.old) (U.given up.old)) (waits (L.waiting link.old) (E.waiting ether.old) (U.waiting up.old)) (asked (L.asked link.old) (E.asked ether.old) (U.asked up.old))) (outside (R.stream rng.new) (C.gives clock.new) (given (L.given link.new) (E.given ether.new) (U.given up.new)) (waits (L.waiting link.new) (E.waiting ether.new) (U.waiting up.new)) (asked (L.asked link.new) (E.asked ether.new) (U.asked up.new)))) }
+    ensures cause { RunBlames (faults (D.faults disk.old) (L.faults link.old) (E.faults ether.old) (U.faults up.old)) (faults (D.faults disk.new) (L.faults link.new) (E.faults ether.new) (U.faults up.new)) result }
+{
+    let _moment = clock.now();
+    let key = next_block(rng);
+    let lac = plan.lac;
+    let turns = plan.turns;
+    let opens = plan.opens;
+    match NodeEnd::open(alloc, disk, lac, config_of(plan), key) {
+        Err(why) => Err(of_opening(why)),
+        Ok((end, outs)) => {
+            let mut end = end;
+            let mut counts = Counts {
+                turns: 0,
+                taken: 0,
+                sent: 0,
+            };
+            match give_and_serve(
+                alloc,
+                &mut end,
+                &outs,
+                link,
+                ether,
+                up,
+                disk,
+                clock,
+                rng,
+                turns,
+                opens,
+                &mut counts,
+            ) {
+                Err(exit) => Err(exit),
+                Ok(()) => Ok(counts),
+            }
+        }
+    }
+}
