@@ -1,6 +1,6 @@
 //! A LAC and an LNS that speak to one another.
 
-use crate::sites::{LacSite, LnsSite, holding, wanting};
+use crate::sites::{LacSite, LnsSite, started_lac, started_lns, wanting};
 use disk_core::{Disk, MemoryDisk, StopDisk};
 use end_model::{Event, Out, address_of};
 use end_store::StoreStop;
@@ -48,41 +48,51 @@ pub(crate) struct Pair<D: Disk + Drop> {
 }
 
 impl<D: Disk + Drop> Pair<D> {
-    /// The first port of the LAC rings.
-    pub fn ring(&mut self) -> Result<(), StoreStop> {
-        let given = self.lac.step(&Event::Ring { port: 1 })?;
+    fn step_lac(&mut self, event: &Event) -> Result<(), StoreStop> {
+        let given = self.lac.step(event)?;
         push_sent(self.alloc, &mut self.to_lns, given.outputs.as_slice(), 2)
+    }
+
+    fn step_lns(&mut self, event: &Event) -> Result<(), StoreStop> {
+        let given = self.lns.step(event)?;
+        push_sent(self.alloc, &mut self.to_lac, given.outputs.as_slice(), 1)
     }
 
     fn tell_lac(&mut self, bytes: &Bytes) -> Result<(), StoreStop> {
         let event = coming(self.alloc, 2, bytes)?;
-        let given = self.lac.step(&event)?;
-        push_sent(self.alloc, &mut self.to_lns, given.outputs.as_slice(), 2)
+        self.step_lac(&event)
     }
 
     fn tell_lns(&mut self, bytes: &Bytes) -> Result<(), StoreStop> {
         let event = coming(self.alloc, 1, bytes)?;
-        let given = self.lns.step(&event)?;
-        push_sent(self.alloc, &mut self.to_lac, given.outputs.as_slice(), 1)
+        self.step_lns(&event)
     }
 
-    /// The LNS takes all that is on its way to it, and then the LAC all that is on its way to the LAC.
-    fn turn(&mut self) -> Result<(), StoreStop> {
-        let coming = mem::replace(&mut self.to_lns, Datagrams::new(self.alloc));
-        for bytes in coming.as_slice() {
-            self.tell_lns(bytes)?;
-        }
-        let coming = mem::replace(&mut self.to_lac, Datagrams::new(self.alloc));
-        for bytes in coming.as_slice() {
+    fn tell_lac_all(&mut self, datagrams: &[Bytes]) -> Result<(), StoreStop> {
+        for bytes in datagrams {
             self.tell_lac(bytes)?;
         }
         Ok(())
     }
 
+    fn tell_lns_all(&mut self, datagrams: &[Bytes]) -> Result<(), StoreStop> {
+        for bytes in datagrams {
+            self.tell_lns(bytes)?;
+        }
+        Ok(())
+    }
+
+    /// The LNS takes all that is on its way to it, and then the LAC all that is on its way to the LAC.
+    fn turn(&mut self) -> Result<(), StoreStop> {
+        let to_lns = mem::replace(&mut self.to_lns, Datagrams::new(self.alloc));
+        self.tell_lns_all(to_lns.as_slice())?;
+        let to_lac = mem::replace(&mut self.to_lac, Datagrams::new(self.alloc));
+        self.tell_lac_all(to_lac.as_slice())
+    }
+
     /// The disk of the LAC, and nothing else of the pair.
-    pub fn into_lac_disk(self) -> D {
-        let lac = self.lac;
-        lac.disk
+    pub fn into_lac_disk(self) -> Box<D> {
+        self.lac.into_disk()
     }
 
     /// Whether nothing is on its way any more.
@@ -90,9 +100,9 @@ impl<D: Disk + Drop> Pair<D> {
         self.to_lac.len() == 0 && self.to_lns.len() == 0
     }
 
-    /// The first port rings, and each end takes what the other one sends, at most 16 times.
+    /// The first port of the LAC rings, and each end takes what the other one sends, at most 16 times.
     pub fn talk(&mut self) -> Result<(), StoreStop> {
-        self.ring()?;
+        self.step_lac(&Event::Ring { port: 1 })?;
         for _ in 0..16 {
             if self.is_quiet() {
                 return Ok(());
@@ -103,29 +113,23 @@ impl<D: Disk + Drop> Pair<D> {
     }
 }
 
-/// Both ends, started over empty disks.
-pub(crate) fn new_pair(alloc: Global) -> Option<Pair<MemoryDisk>> {
-    let mut lac = LacSite::open(alloc, holding(alloc, b"").ok()?)?;
-    lac.start().ok()?;
-    let mut lns = LnsSite::open(alloc)?;
-    lns.start().ok()?;
+/// This LAC, and an LNS that is started over an empty disk.
+fn pair_with<D: Disk + Drop>(alloc: Global, lac: LacSite<D>) -> Option<Pair<D>> {
     Some(Pair {
         alloc,
         lac,
-        lns,
+        lns: started_lns(alloc)?,
         to_lac: Datagrams::new(alloc),
         to_lns: Datagrams::new(alloc),
     })
 }
 
+/// Both ends, started over empty disks.
+pub(crate) fn new_pair(alloc: Global) -> Option<Pair<MemoryDisk>> {
+    pair_with(alloc, started_lac(alloc)?)
+}
+
 /// Both ends, started over empty disks, where that of the LAC stops behind so many calls of the device.
 pub(crate) fn stopping_pair(alloc: Global, calls: u64) -> Option<Pair<StopDisk>> {
-    let pair = new_pair(alloc)?;
-    Some(Pair {
-        alloc,
-        lac: pair.lac.stopping(calls),
-        lns: pair.lns,
-        to_lac: pair.to_lac,
-        to_lns: pair.to_lns,
-    })
+    pair_with(alloc, started_lac(alloc)?.stopping(alloc, calls)?)
 }

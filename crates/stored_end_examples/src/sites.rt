@@ -22,9 +22,10 @@ pub(crate) fn wanting(_e: NoMemory) -> StoreStop {
     StoreStop::NoMemory
 }
 
-/// A disk that holds these bytes.
-pub(crate) fn holding(alloc: Global, image: &[u8]) -> Result<MemoryDisk, NoMemory> {
-    MemoryDisk::new(alloc, Bytes::from_slice(alloc, image)?, Fails::new(alloc))
+/// An empty disk, in a box, since it is large: a function that owns it inline, with ways out, is dear to prove.
+fn empty_disk(alloc: Global) -> Result<Box<MemoryDisk>, NoMemory> {
+    let disk = MemoryDisk::new(alloc, Bytes::new(alloc), Fails::new(alloc))?;
+    Ok(Box::new(alloc, disk)?)
 }
 
 /// What an end of this number is told, without a secret. A LAC is told its LNS.
@@ -38,8 +39,7 @@ fn config(number: u8, lns: u32) -> Config {
     }
 }
 
-/// The LAC 1 of a store, whose LNS is the node 2. It is in a box, since it is large: a function that owns it inline, with ways out, is
-/// dear to prove.
+/// The LAC 1 of a store, whose LNS is the node 2, in a box.
 fn boxed_lac(alloc: Global, store: Store) -> Result<Box<StoredLac>, NoMemory>
     ensures { IfOk result (λ lac. lac.value.store ≡ store) }
 {
@@ -58,28 +58,37 @@ fn boxed_lns(alloc: Global, store: Store) -> Result<Box<StoredLns>, NoMemory>
 #[derive(Drop)]
 pub(crate) struct LacSite<D: Disk + Drop> {
     pub lac: Box<StoredLac>,
-    pub disk: D,
-    ghost room: { lac.value.store.journal.halted ≡ false → HasRoom D.reach D.calls_left lac.value.store.journal disk },
+    pub disk: Box<D>,
+    ghost room: { lac.value.store.journal.halted ≡ false → HasRoom D.reach D.calls_left lac.value.store.journal disk.value },
 }
 
 impl<D: Disk + Drop> LacSite<D> {
     /// The LAC over a store that is opened on the disk, before its start.
-    pub fn open(alloc: Global, disk: D) -> Option<LacSite<D>> {
+    pub fn open(alloc: Global, disk: Box<D>) -> Option<LacSite<D>> {
         let mut disk = disk;
-        let store = Store::open(alloc, &mut disk, 1, 1).ok()?;
+        let store = Store::open(alloc, &mut *disk, 1, 1).ok()?;
         let lac = boxed_lac(alloc, store).ok()?;
         Some(LacSite { lac, disk })
     }
 
     pub fn start(&mut self) -> Result<Given, StoreStop> {
-        self.lac.start(&mut self.disk, [0; 16])
+        self.lac.start(&mut *self.disk, [0; 16])
+    }
+
+    pub fn starts(&mut self) -> bool {
+        self.start().is_ok()
     }
 
     pub fn step(&mut self, event: &Event) -> Result<LacGiven, StoreStop> {
-        self.lac.step(&mut self.disk, MOMENT, BLOCK, event)
+        self.lac.step(&mut *self.disk, MOMENT, BLOCK, event)
     }
 
-    pub fn into_disk(self) -> D {
+    /// Why a step isn't made, None where it is.
+    pub fn stop_of(&mut self, event: &Event) -> Option<StoreStop> {
+        self.step(event).err()
+    }
+
+    pub fn into_disk(self) -> Box<D> {
         self.disk
     }
 
@@ -95,11 +104,12 @@ impl<D: Disk + Drop> LacSite<D> {
 
 impl LacSite<MemoryDisk> {
     /// The same LAC, whose disk stops behind so many calls of the device.
-    pub fn stopping(self, calls: u64) -> LacSite<StopDisk> {
-        LacSite {
+    pub fn stopping(self, alloc: Global, calls: u64) -> Option<LacSite<StopDisk>> {
+        let disk = StopDisk::new(Box::into_inner(self.disk), calls);
+        Some(LacSite {
             lac: self.lac,
-            disk: StopDisk::new(self.disk, calls),
-        }
+            disk: Box::new(alloc, disk).ok()?,
+        })
     }
 }
 
@@ -107,24 +117,36 @@ impl LacSite<MemoryDisk> {
 #[derive(Drop)]
 pub(crate) struct LnsSite {
     pub lns: Box<StoredLns>,
-    pub disk: MemoryDisk,
-    ghost room: { lns.value.store.journal.halted ≡ false → HasRoom (λ d. d.store.prepared_to) (λ d. d.store.prepared_calls) lns.value.store.journal disk },
+    pub disk: Box<MemoryDisk>,
+    ghost room: { lns.value.store.journal.halted ≡ false → HasRoom (λ d. d.store.prepared_to) (λ d. d.store.prepared_calls) lns.value.store.journal disk.value },
 }
 
 impl LnsSite {
     /// The LNS over a store that is opened on an empty disk, before its start.
     pub fn open(alloc: Global) -> Option<LnsSite> {
-        let mut disk = holding(alloc, b"").ok()?;
-        let store = Store::open(alloc, &mut disk, 2, 2).ok()?;
+        let mut disk = empty_disk(alloc).ok()?;
+        let store = Store::open(alloc, &mut *disk, 2, 2).ok()?;
         let lns = boxed_lns(alloc, store).ok()?;
         Some(LnsSite { lns, disk })
     }
 
-    pub fn start(&mut self) -> Result<Given, StoreStop> {
-        self.lns.start(&mut self.disk)
+    pub fn starts(&mut self) -> bool {
+        self.lns.start(&mut *self.disk).is_ok()
     }
 
     pub fn step(&mut self, event: &Event) -> Result<Given, StoreStop> {
-        self.lns.step(&mut self.disk, MOMENT, BLOCK, event)
+        self.lns.step(&mut *self.disk, MOMENT, BLOCK, event)
     }
+}
+
+/// The LAC, started over an empty disk.
+pub(crate) fn started_lac(alloc: Global) -> Option<LacSite<MemoryDisk>> {
+    let mut lac = LacSite::open(alloc, empty_disk(alloc).ok()?)?;
+    if lac.starts() { Some(lac) } else { None }
+}
+
+/// The LNS, started over an empty disk.
+pub(crate) fn started_lns(alloc: Global) -> Option<LnsSite> {
+    let mut lns = LnsSite::open(alloc)?;
+    if lns.starts() { Some(lns) } else { None }
 }

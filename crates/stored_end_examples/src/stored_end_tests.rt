@@ -51,13 +51,16 @@ fn talked(alloc: Global) -> Option<Pair<MemoryDisk>> {
     Some(pair)
 }
 
+/// Nothing is on its way, and the disks hold these bytes.
+fn has_files(pair: &Pair<MemoryDisk>, lac: &[u8], lns: &[u8]) -> bool {
+    pair.is_quiet() && pair.lac.disk.bytes() == lac && pair.lns.disk.bytes() == lns
+}
+
 /// The call comes up until nothing is on its way, and the disks hold these bytes then.
 fn leaves_files(alloc: Global, lac: &[u8], lns: &[u8]) -> bool {
     match talked(alloc) {
         None => false,
-        Some(pair) => {
-            pair.is_quiet() && pair.lac.disk.bytes() == lac && pair.lns.disk.bytes() == lns
-        }
+        Some(pair) => has_files(&pair, lac, lns),
     }
 }
 
@@ -67,40 +70,53 @@ fn has_first(bytes: &[u8], file: &[u8; 161], records: u32) -> bool {
     bytes.starts_with(&file[..end])
 }
 
-/// The call comes up, and the disk of the LAC stops at this call of the device: why the step isn't made that makes it, nor the next one.
-fn stopped_at(alloc: Global, call: u64) -> Option<(StoreStop, StoreStop, Pair<StopDisk>)> {
-    let mut pair = stopping_pair(alloc, call.saturating_sub(1))?;
-    let first = pair.talk().err()?;
-    let second = pair.lac.step(&Event::Tick).err()?;
-    Some((first, second, pair))
+/// The call comes up until the disk of the LAC stops: the step in which it does isn't made, nor is the next one.
+fn stops(pair: &mut Pair<StopDisk>) -> bool {
+    pair.talk() == Err(StoreStop::StoreFault)
+        && pair.lac.stop_of(&Event::Tick) == Some(StoreStop::Halted)
 }
 
-/// The step in which the disk of the LAC stops at this call isn't made, nor is the next one: the LAC has these tunnels, as before, nothing
-/// is on its way to the LNS, and the LNS has as many records as before.
-fn stops_at(alloc: Global, call: u64, tunnels: (usize, u16, u16), heard: u32) -> bool {
-    let Some((first, second, pair)) = stopped_at(alloc, call) else {
-        return false;
-    };
+/// The pair whose call comes up until the disk of the LAC stops at this call of the device.
+fn stopped_at(alloc: Global, call: u64) -> Option<Pair<StopDisk>> {
+    let mut pair = stopping_pair(alloc, call.saturating_sub(1))?;
+    if stops(&mut pair) { Some(pair) } else { None }
+}
+
+/// The LAC has these tunnels, nothing is on its way to the LNS, and the LNS has so many records.
+fn has_heard(alloc: Global, pair: &Pair<StopDisk>, tunnels: (usize, u16, u16), heard: u32) -> bool {
     let lns = pair.lns.disk.bytes();
-    first == StoreStop::StoreFault
-        && second == StoreStop::Halted
-        && pair.lac.tunnels(alloc) == Ok(tunnels)
+    pair.lac.tunnels(alloc) == Ok(tunnels)
         && pair.to_lns.len() == 0
         && lns.len() == 33 + 32 * heard.min(4) as usize
         && has_first(lns, LNS_FILE, heard)
 }
 
-/// The same, and the disk crashes: with so many records it opens then.
+/// The step in which the disk of the LAC stops at this call isn't made, nor is the next one: the LAC has these tunnels, as before, nothing
+/// is on its way to the LNS, and the LNS has as many records as before.
+fn stops_at(alloc: Global, call: u64, tunnels: (usize, u16, u16), heard: u32) -> bool {
+    match stopped_at(alloc, call) {
+        None => false,
+        Some(pair) => has_heard(alloc, &pair, tunnels, heard),
+    }
+}
+
+/// The disk opens as that of the LAC, with so many records.
+fn opens_with(alloc: Global, disk: &mut MemoryDisk, found: u32) -> bool {
+    let records = match Store::open(alloc, disk, 1, 1) {
+        Ok(store) => store.records(),
+        Err(_) => return false,
+    };
+    records == found && has_first(disk.bytes(), LAC_FILE, found)
+}
+
+/// The disk of the LAC stops at this call as the call comes up, and crashes: with so many records it opens then.
 fn is_left(alloc: Global, call: u64, kept: bool, found: u32) -> bool {
-    let Some((_, _, pair)) = stopped_at(alloc, call) else {
+    let Some(pair) = stopped_at(alloc, call) else {
         return false;
     };
-    let mut disk = pair.into_lac_disk().into_disk();
+    let mut disk = Box::into_inner(pair.into_lac_disk()).into_disk();
     disk.after_crash(kept);
-    match Store::open(alloc, &mut disk, 1, 1) {
-        Ok(store) => store.records() == found && has_first(disk.bytes(), LAC_FILE, found),
-        Err(_) => false,
-    }
+    opens_with(alloc, &mut disk, found)
 }
 
 /// The LAC whose call was up is opened again after a crash.
@@ -111,36 +127,51 @@ fn opened_again(alloc: Global) -> Option<LacSite<MemoryDisk>> {
     LacSite::open(alloc, disk)
 }
 
+/// Whether the start of a LAC tells that its call is gone, and nothing else.
+fn tells_gone(lac: &mut LacSite<MemoryDisk>) -> Option<bool> {
+    let given = lac.start().ok()?;
+    Some(matches!(given.outputs.as_slice(), [Out::Gone { session: 1 }]))
+}
+
 /// The same LAC, and whether its start tells that its call is gone, and nothing else.
 fn started_again(alloc: Global) -> Option<(bool, LacSite<MemoryDisk>)> {
     let mut lac = opened_again(alloc)?;
-    let given = lac.start().ok()?;
-    let gone = matches!(given.outputs.as_slice(), [Out::Gone { session: 1 }]);
+    let gone = tells_gone(&mut lac)?;
     Some((gone, lac))
+}
+
+/// The LAC has these tunnels, and its disk has this file.
+fn has_file(
+    alloc: Global,
+    lac: &LacSite<MemoryDisk>,
+    tunnels: (usize, u16, u16),
+    file: &[u8],
+) -> bool {
+    lac.tunnels(alloc) == Ok(tunnels) && lac.disk.bytes() == file
 }
 
 /// A LAC that starts again tells that its call is gone, has no tunnel, and its disk has this file.
 fn lets_go(alloc: Global, file: &[u8]) -> bool {
     match started_again(alloc) {
         None => false,
-        Some((gone, lac)) => {
-            gone && lac.tunnels(alloc) == Ok((0, 0, 0)) && lac.disk.bytes() == file
-        }
+        Some((gone, lac)) => gone && has_file(alloc, &lac, (0, 0, 0), file),
     }
 }
 
+/// The store has these ceilings of tunnel and session ids, so many records, and no tunnel.
+fn holds_ceilings(store: &Store, ceiling: u32, records: u32) -> bool {
+    let book = store.book();
+    book.ceiling(1) == ceiling
+        && book.ceiling(2) == ceiling
+        && book.tunnels().is_empty()
+        && book.calls().is_empty()
+        && store.records() == records
+}
+
 /// The file that the store of a LAC opens has these ceilings of tunnel and session ids, so many records, and no tunnel.
-fn has_ceilings(alloc: Global, disk: MemoryDisk, ceiling: u32, records: u32) -> bool {
-    let mut disk = disk;
-    match Store::open(alloc, &mut disk, 1, 1) {
-        Ok(store) => {
-            let book = store.book();
-            book.ceiling(1) == ceiling
-                && book.ceiling(2) == ceiling
-                && book.tunnels().is_empty()
-                && book.calls().is_empty()
-                && store.records() == records
-        }
+fn has_ceilings(alloc: Global, disk: &mut MemoryDisk, ceiling: u32, records: u32) -> bool {
+    match Store::open(alloc, disk, 1, 1) {
+        Ok(store) => holds_ceilings(&store, ceiling, records),
         Err(_) => false,
     }
 }
@@ -148,28 +179,39 @@ fn has_ceilings(alloc: Global, disk: MemoryDisk, ceiling: u32, records: u32) -> 
 /// A LAC that started again, whose first port rings.
 fn rung_again(alloc: Global) -> Option<LacSite<MemoryDisk>> {
     let (_, mut lac) = started_again(alloc)?;
-    lac.step(&Event::Ring { port: 1 }).ok()?;
-    Some(lac)
+    match lac.stop_of(&Event::Ring { port: 1 }) {
+        None => Some(lac),
+        Some(_) => None,
+    }
+}
+
+/// The LAC has one tunnel, with this id, and its disk begins as this file before its end, and goes on with these bytes.
+fn has_rung(
+    alloc: Global,
+    lac: &LacSite<MemoryDisk>,
+    tunnel: u16,
+    file: &[u8; 193],
+    behind: &[u8],
+) -> bool {
+    lac.tunnels(alloc) == Ok((1, tunnel, 0))
+        && lac.disk.bytes().strip_prefix(&file[..192]) == Some(behind)
 }
 
 /// The ring of a LAC that started again: its tunnel has this id, and behind the file of before its disk has these bytes.
 fn rings_again(alloc: Global, tunnel: u16, file: &[u8; 193], behind: &[u8]) -> bool {
-    match rung_again(alloc) {
-        None => false,
-        Some(lac) => {
-            let bytes = lac.disk.bytes();
-            lac.tunnels(alloc) == Ok((1, tunnel, 0))
-                && bytes.strip_prefix(&file[..192]) == Some(behind)
-                && has_ceilings(alloc, lac.into_disk(), 128, 7)
-        }
-    }
+    let Some(lac) = rung_again(alloc) else {
+        return false;
+    };
+    let is_rung = has_rung(alloc, &lac, tunnel, file, behind);
+    let mut disk = lac.into_disk();
+    is_rung && has_ceilings(alloc, &mut disk, 128, 7)
 }
 
 /// The ring of a LAC that started again, whose disk stops at this call: why it isn't made, and which tunnels the LAC has then.
 fn ring_stops_at(alloc: Global, call: u64) -> Option<(Option<StoreStop>, (usize, u16, u16))> {
     let (_, lac) = started_again(alloc)?;
-    let mut lac = lac.stopping(call.saturating_sub(1));
-    let stop = lac.step(&Event::Ring { port: 1 }).err();
+    let mut lac = lac.stopping(alloc, call.saturating_sub(1))?;
+    let stop = lac.stop_of(&Event::Ring { port: 1 });
     Some((stop, lac.tunnels(alloc).ok()?))
 }
 
