@@ -1,10 +1,10 @@
 use disk_core::{Fails, MemoryDisk};
 use end_store::Store;
 use schedule_replay::{LineFault, World};
-use schedule_text::read_schedule;
+use schedule_text::{Line, read_schedule};
 use std::alloc::Global;
 use std::test::Fail;
-use wire_base::Bytes;
+use wire_base::{Bytes, NoMemory};
 use world_model::Refusal;
 
 /// The journal of the LAC 1 whose call with the LNS 2 is up, worked out from the format: kind 1 and number 1, the ceilings of its tunnel
@@ -54,12 +54,10 @@ const CALL: &[u8] =
 
 // Functions without clauses: a test that calls them is proved at little cost.
 
-/// The world behind these lines, those left out that don't fit it.
-fn run_fitting(alloc: Global, text: &[u8]) -> Option<World> {
-    let lines = read_schedule(alloc, text).ok()?;
-    let mut world = World::new(alloc);
+/// Runs these lines, those left out that don't fit the world; whether each other one could be run.
+fn runs_fitting(world: &mut World, lines: &[Line]) -> bool {
     let mut number = 0u64;
-    for line in lines.as_slice() {
+    for line in lines {
         number = number.saturating_add(1);
         match world.line(number, line) {
             Ok(())
@@ -68,29 +66,56 @@ fn run_fitting(alloc: Global, text: &[u8]) -> Option<World> {
                     refusal: Refusal::Unfit { .. },
                 },
             ) => (),
-            Err(_) => return None,
+            Err(_) => return false,
         }
     }
-    Some(world)
+    true
+}
+
+/// The same of the lines of a text.
+fn runs_text(alloc: Global, world: &mut World, text: &[u8]) -> bool {
+    match read_schedule(alloc, text) {
+        Ok(lines) => runs_fitting(world, lines.as_slice()),
+        Err(_) => false,
+    }
+}
+
+/// The world behind these lines, those left out that don't fit it. It is in a box, since it is large: a function that owns it inline, with
+/// ways out, is dear to prove.
+fn run_fitting(alloc: Global, text: &[u8]) -> Option<Box<World>> {
+    let mut world = Box::new(alloc, World::new(alloc)).ok()?;
+    if runs_text(alloc, &mut world, text) {
+        Some(world)
+    } else {
+        None
+    }
+}
+
+/// These pieces, one behind the other.
+fn joined(alloc: Global, pieces: &[&[u8]]) -> Result<Bytes, NoMemory> {
+    let mut text = Bytes::new(alloc);
+    for piece in pieces {
+        text.push_slice(piece)?;
+    }
+    Ok(text)
+}
+
+/// A number below 10 in a text.
+fn digit(number: u8) -> u8 {
+    b'0'.saturating_add(number)
 }
 
 /// The line of a stop of a node. Each number has one digit.
-fn stop_line(alloc: Global, node: u8, commit: u8, call: u8, kept: bool) -> Option<Bytes> {
-    let mut line = Bytes::from_slice(alloc, b"stop ").ok()?;
-    for number in [node, commit, call] {
-        line.push_slice(&[b'0'.saturating_add(number), b' ']).ok()?;
-    }
-    line.push_slice(if kept { b"kept\n" } else { b"lost\n" })
-        .ok()?;
-    Some(line)
+fn stop_line(alloc: Global, node: u8, commit: u8, call: u8, kept: bool) -> Result<Bytes, NoMemory> {
+    let numbers = [digit(node), b' ', digit(commit), b' ', digit(call)];
+    let mut line = joined(alloc, &[b"stop ", &numbers])?;
+    line.push_slice(if kept { b" kept\n" } else { b" lost\n" })?;
+    Ok(line)
 }
 
 /// The world in which a call comes up, after this line, and before that one.
-fn talk(alloc: Global, before: &[u8], behind: &[u8]) -> Option<World> {
-    let mut text = Bytes::from_slice(alloc, NODES).ok()?;
-    text.push_slice(before).ok()?;
-    text.push_slice(CALL).ok()?;
-    text.push_slice(behind).ok()?;
+fn talk(alloc: Global, before: &[u8], behind: &[u8]) -> Option<Box<World>> {
+    let text = joined(alloc, &[NODES, before, CALL, behind]).ok()?;
     run_fitting(alloc, text.as_slice())
 }
 
@@ -99,33 +124,31 @@ fn kind_of(node: u8) -> u8 {
     if node == 3 { 2 } else { 1 }
 }
 
+/// With how many records a disk opens as that of its node.
+fn opened_records(alloc: Global, disk: &mut MemoryDisk, node: u8) -> Option<u32> {
+    let store = Store::open(alloc, disk, kind_of(node), node).ok()?;
+    Some(store.records())
+}
+
 /// With how many records a file opens as the journal of its node.
 fn records_of(alloc: Global, file: &[u8], node: u8) -> Option<u32> {
     let image = Bytes::from_slice(alloc, file).ok()?;
     let mut disk = MemoryDisk::new(alloc, image, Fails::new(alloc)).ok()?;
-    let store = Store::open(alloc, &mut disk, kind_of(node), node).ok()?;
-    Some(store.records())
+    opened_records(alloc, &mut disk, node)
+}
+
+/// With how many records the disk of a node opens.
+fn node_records(alloc: Global, world: &World, node: u8) -> Option<u32> {
+    records_of(alloc, world.file(node)?, node)
 }
 
 /// The disk of a node has this file.
-fn has_file(world: Option<World>, node: u8, file: &[u8]) -> bool {
-    match world {
-        Some(world) => world.file(node) == Some(file),
-        None => false,
-    }
+fn has_file(world: &World, node: u8, file: &[u8]) -> bool {
+    world.file(node) == Some(file)
 }
 
 /// The disk of a node begins as this file up to so many records, with which it opens.
-fn has_first(
-    alloc: Global,
-    world: Option<World>,
-    node: u8,
-    file: &[u8; 161],
-    records: u32,
-) -> bool {
-    let Some(world) = world else {
-        return false;
-    };
+fn has_first(alloc: Global, world: &World, node: u8, file: &[u8; 161], records: u32) -> bool {
     let Some(found) = world.file(node) else {
         return false;
     };
@@ -133,71 +156,93 @@ fn has_first(
         && records_of(alloc, found, node) == Some(records)
 }
 
+/// The disk of a node has this file behind a call that came up, and these lines.
+fn talk_leaves(alloc: Global, behind: &[u8], node: u8, file: &[u8]) -> bool {
+    match talk(alloc, b"", behind) {
+        Some(world) => has_file(&world, node, file),
+        None => false,
+    }
+}
+
 /// A node stops at this call of this commit as a call comes up.
-fn stops(alloc: Global, stop: (u8, u8, u8, bool), behind: &[u8]) -> Option<World> {
+fn stops(alloc: Global, stop: (u8, u8, u8, bool), behind: &[u8]) -> Option<Box<World>> {
     let (node, commit, call, kept) = stop;
-    let line = stop_line(alloc, node, commit, call, kept)?;
+    let line = stop_line(alloc, node, commit, call, kept).ok()?;
     talk(alloc, line.as_slice(), behind)
+}
+
+/// A node that stops there has the first so many records of this file.
+fn stop_leaves(alloc: Global, stop: (u8, u8, u8, bool), file: &[u8; 161], records: u32) -> bool {
+    match stops(alloc, stop, b"") {
+        Some(world) => has_first(alloc, &world, stop.0, file, records),
+        None => false,
+    }
+}
+
+/// With how many records the disk of a node opens that stopped there and started again.
+fn started_records(alloc: Global, stop: (u8, u8, u8, bool)) -> Option<u32> {
+    let start: &[u8] = if stop.0 == 3 {
+        b"start 3\n"
+    } else {
+        b"start 8\n"
+    };
+    match stops(alloc, stop, start) {
+        Some(world) => node_records(alloc, &world, stop.0),
+        None => None,
+    }
 }
 
 /// A node that stops there has the records before, and the one that it stopped at where that is kept; and so it is behind its start, with
 /// one more where a tunnel went.
 fn stops_whole(alloc: Global, stop: (u8, u8, u8, bool), file: &[u8; 161], up: u32) -> bool {
-    let (node, commit, _, kept) = stop;
+    let (_, commit, _, kept) = stop;
     let records = u32::from(commit).saturating_sub(u32::from(!kept));
     let gone = u32::from(records >= up);
-    let start: &[u8] = if node == 3 {
-        b"start 3\n"
-    } else {
-        b"start 8\n"
-    };
-    let started = stops(alloc, stop, start);
-    let found = match &started {
-        Some(world) => match world.file(node) {
-            Some(found) => records_of(alloc, found, node),
-            None => None,
-        },
-        None => None,
-    };
-    has_first(alloc, stops(alloc, stop, b""), node, file, records)
-        && found == Some(records.saturating_add(gone))
+    stop_leaves(alloc, stop, file, records)
+        && started_records(alloc, stop) == Some(records.saturating_add(gone))
 }
 
 /// The schedule in which the LAC 1 stops at its fourth commit, where its call comes up.
-fn first_row(alloc: Global, stop: &[u8]) -> Option<World> {
-    let mut text = Bytes::from_slice(
-        alloc,
-        b"lns 2 -\nlac 1 2 - plain\nring 1 1\ndeliver 1\ndeliver 2\ndeliver 3\ndeliver 4\n",
-    )
-    .ok()?;
-    text.push_slice(stop).ok()?;
-    text.push_slice(b"deliver 6\n").ok()?;
+fn first_row(alloc: Global, stop: &[u8]) -> Option<Box<World>> {
+    let call: &[u8] =
+        b"lns 2 -\nlac 1 2 - plain\nring 1 1\ndeliver 1\ndeliver 2\ndeliver 3\ndeliver 4\n";
+    let text = joined(alloc, &[call, stop, b"deliver 6\n"]).ok()?;
     run_fitting(alloc, text.as_slice())
+}
+
+/// The disk of the LAC 1 has the whole file behind that schedule.
+fn first_row_leaves_all(alloc: Global, stop: &[u8]) -> bool {
+    match first_row(alloc, stop) {
+        Some(world) => has_file(&world, 1, FIRST_FILE),
+        None => false,
+    }
+}
+
+/// It begins as that file up to so many records, with which it opens.
+fn first_row_leaves(alloc: Global, stop: &[u8], records: u32) -> bool {
+    match first_row(alloc, stop) {
+        Some(world) => has_first(alloc, &world, 1, FIRST_FILE, records),
+        None => false,
+    }
 }
 
 #[test]
 fn a_stop_that_keeps_its_record_leaves_the_whole_file(rt: HostRuntime) -> Result<(), Fail> {
-    let kept = first_row(rt.alloc(), b"stop 1 1 4 kept\n");
-    assert!(rt; has_file(kept, 1, FIRST_FILE));
-    let lost = first_row(rt.alloc(), b"stop 1 1 4 lost\n");
-    assert!(rt; has_first(rt.alloc(), lost, 1, FIRST_FILE, 3));
+    assert!(rt; first_row_leaves_all(rt.alloc(), b"stop 1 1 4 kept\n"));
+    assert!(rt; first_row_leaves(rt.alloc(), b"stop 1 1 4 lost\n", 3));
     Ok(())
 }
 
 #[test]
 fn a_call_that_comes_up_is_on_both_disks(rt: HostRuntime) -> Result<(), Fail> {
-    assert!(rt; has_file(talk(rt.alloc(), b"", b""), 8, LAC_FILE));
-    assert!(rt; has_file(talk(rt.alloc(), b"", b""), 3, LNS_FILE));
+    let alloc = rt.alloc();
+    assert!(rt; talk_leaves(alloc, b"", 8, LAC_FILE));
+    assert!(rt; talk_leaves(alloc, b"", 3, LNS_FILE));
+    assert!(rt; talk_leaves(alloc, b"crash 8\nstart 8\n", 8, STARTED_FILE));
     assert!(rt;
-        has_file(
-            talk(rt.alloc(), b"", b"crash 8\nstart 8\n"),
-            8,
-            STARTED_FILE
-        )
-    );
-    assert!(rt;
-        has_file(
-            talk(rt.alloc(), b"", b"crash 8\nstart 8\ncrash 8\nstart 8\n"),
+        talk_leaves(
+            alloc,
+            b"crash 8\nstart 8\ncrash 8\nstart 8\n",
             8,
             STARTED_FILE
         )
