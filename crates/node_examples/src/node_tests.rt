@@ -1,0 +1,293 @@
+use block_source::seeded;
+use disk_core::{Fails, MemoryDisk};
+use memory_ports::{ManualClock, MemoryEther, MemoryLink, MemoryUplink, Moments};
+use node_top::{NodeExit, node_top};
+use port_traits::{Datagrams, Fails as PortFails, Frames, LowerFrames, MemorySink};
+use std::alloc::Global;
+use std::test::Fail;
+use wire_base::Bytes;
+
+/// The words of the LAC 1 whose LNS is at 127.0.0.2, but for its turns.
+const LAC: &str =
+    "node --role lac --number 1 --listen 127.0.0.1 --peer 127.0.0.2 --store s --turns";
+
+/// The SCCRQ of the LAC 1 for its tunnel 1, as an encoder of its own has it.
+const SCCRQ: &[u8; 76] = b"\xc8\x02\0\x4c\0\0\0\0\0\0\0\0\
+\x80\x08\0\0\0\0\0\x01\x80\x08\0\0\0\x02\x01\0\x80\x0a\0\0\0\x03\0\0\0\x03\x80\x0a\0\0\0\x07lac1\
+\x80\x08\0\0\0\x09\0\x01\x80\x08\0\0\0\x0a\0\x08\0\x0c\0\0\0\x4c\0\x03\0\0\x75\x30";
+
+/// The store of the LAC 1 that was just made, worked out from the format: kind 1 and number 1, and no record.
+const NEW_STORE: &[u8; 33] = b"OL2TPCKP1\x01\x01\0\0\0\0\0\0\0\0\0\0\0\0\0\0\0\0\0\0\0\0CC";
+
+/// The same, and that its tunnel ids have the ceiling 64, which was committed before the tunnel was opened.
+const OPENED_STORE: &[u8; 65] = b"OL2TPCKP1\x01\x01\0\0\0\0\0\0\0\0\0\0\0\0\0\0\0\0\0\0\0\0C\
+O\x01\x01\0\0\0\x40\0\0\0\0\0\0\0\0\0\0\0\0\0\0\0\0\0\0\0\0\0\0\0\0\0C";
+
+/// What is around a node, with nothing waiting.
+#[derive(Drop)]
+struct Surroundings {
+    link: MemoryLink,
+    ether: MemoryEther,
+    up: MemoryUplink,
+    disk: MemoryDisk,
+    clock: ManualClock,
+    sink: MemorySink,
+}
+
+// Functions without clauses: a test that calls them is proved at little cost.
+
+/// Which calls fail, counted from 1: of the link, the Ethernet port, the uplink, the disk and the sink. 0 is none.
+type Failing = (u64, u64, u64, u64, u64);
+
+const NONE: Failing = (0, 0, 0, 0, 0);
+
+/// That this call of a port fails, as far as there is memory to say so.
+fn fails_at(alloc: Global, call: u64) -> PortFails {
+    match PortFails::from_slice(alloc, &[call]) {
+        Ok(fails) => fails,
+        Err(_) => PortFails::new(alloc),
+    }
+}
+
+/// An empty disk of which this call fails.
+fn disk_that_fails(alloc: Global, call: u64) -> Option<MemoryDisk> {
+    let fails = Fails::from_slice(alloc, &[call]).ok()?;
+    MemoryDisk::new(alloc, Bytes::new(alloc), fails).ok()
+}
+
+/// A clock that stands still.
+fn clock(alloc: Global) -> ManualClock {
+    match Moments::from_slice(alloc, &[5]) {
+        Ok(moments) => ManualClock::new(moments),
+        Err(_) => ManualClock::new(Moments::new(alloc)),
+    }
+}
+
+/// All that is around a node with this disk.
+fn around_disk(alloc: Global, disk: MemoryDisk, failing: Failing) -> Surroundings {
+    let (link, ether, up, _, sink) = failing;
+    Surroundings {
+        link: MemoryLink::new(alloc, Datagrams::new(alloc), fails_at(alloc, link)),
+        ether: MemoryEther::new(alloc, Frames::new(alloc), fails_at(alloc, ether)),
+        up: MemoryUplink::new(alloc, LowerFrames::new(alloc), fails_at(alloc, up)),
+        disk,
+        clock: clock(alloc),
+        sink: MemorySink::new(alloc, fails_at(alloc, sink)),
+    }
+}
+
+fn around(alloc: Global, failing: Failing) -> Option<Box<Surroundings>> {
+    let disk = disk_that_fails(alloc, failing.3)?;
+    Box::new(alloc, around_disk(alloc, disk, failing)).ok()
+}
+
+/// Appends the words of a line.
+fn push_words(alloc: Global, words: &mut Vec<String>, line: &str) -> Option<()> {
+    for word in line.split(' ') {
+        words.push(String::from_str(alloc, word).ok()?).ok()?;
+    }
+    Some(())
+}
+
+/// The words of a line, and behind them these.
+fn words_of(alloc: Global, line: &str, more: &str) -> Vec<String> {
+    let mut words: Vec<String> = Vec::new(alloc);
+    if push_words(alloc, &mut words, line).is_some() {
+        let _pushed = push_words(alloc, &mut words, more);
+    }
+    words
+}
+
+/// Runs the node of these words.
+fn run(alloc: Global, words: &[String], around: &mut Surroundings) -> NodeExit {
+    let mut generator = seeded([7u8; 32]);
+    node_top(
+        alloc,
+        words,
+        b"l2tp 0\n",
+        &mut around.link,
+        &mut around.ether,
+        &mut around.up,
+        &mut around.disk,
+        &mut around.clock,
+        &mut generator,
+        &mut around.sink,
+    )
+}
+
+/// Runs the node of a line with these words behind it.
+fn run_line(alloc: Global, line: &str, more: &str, around: &mut Surroundings) -> NodeExit {
+    let words = words_of(alloc, line, more);
+    run(alloc, words.as_slice(), around)
+}
+
+/// The node of these words, where these calls fail: how it ends, and what is around it then.
+fn ran(
+    alloc: Global,
+    line: &str,
+    more: &str,
+    failing: Failing,
+) -> Option<(NodeExit, Box<Surroundings>)> {
+    let mut around = around(alloc, failing)?;
+    let exit = run_line(alloc, line, more, &mut around);
+    Some((exit, around))
+}
+
+/// It ends so, the sink has this text, and the disk this file.
+fn ends(alloc: Global, line: &str, more: &str, exit: NodeExit, text: &[u8], file: &[u8]) -> bool {
+    match ran(alloc, line, more, NONE) {
+        None => false,
+        Some((ended, around)) => {
+            ended == exit && around.sink.taken() == text && around.disk.bytes() == file
+        }
+    }
+}
+
+/// Where these calls fail, it ends so, and the sink has this text.
+fn fails(alloc: Global, more: &str, failing: Failing, exit: NodeExit, text: &[u8]) -> bool {
+    match ran(alloc, LAC, more, failing) {
+        None => false,
+        Some((ended, around)) => ended == exit && around.sink.taken() == text,
+    }
+}
+
+/// It sends this datagram to this peer, and nothing else to any port.
+fn sends(alloc: Global, more: &str, peer: u32, bytes: &[u8]) -> bool {
+    let Some((_, around)) = ran(alloc, LAC, more, NONE) else {
+        return false;
+    };
+    let sent = match around.link.given() {
+        [given] => given.peer == peer && given.bytes.as_slice() == bytes,
+        _ => false,
+    };
+    sent && around.ether.given().is_empty() && around.up.given().is_empty()
+}
+
+#[test]
+fn a_node_opens_a_tunnel_over_a_new_store(rt: HostRuntime) -> Result<(), Fail> {
+    let alloc = rt.alloc();
+    assert!(rt; sends(alloc, "1 --open", 0x7f00_0002, SCCRQ));
+    assert!(rt;
+        ends(
+            alloc,
+            LAC,
+            "1 --open",
+            NodeExit::Ok,
+            b"turns 1\ntaken 0\nsent 1\n",
+            OPENED_STORE
+        )
+    );
+    assert!(rt;
+        ends(
+            alloc,
+            LAC,
+            "0",
+            NodeExit::Ok,
+            b"turns 0\ntaken 0\nsent 0\n",
+            NEW_STORE
+        )
+    );
+    assert!(rt;
+        ends(
+            alloc,
+            LAC,
+            "3",
+            NodeExit::Ok,
+            b"turns 3\ntaken 0\nsent 0\n",
+            NEW_STORE
+        )
+    );
+    Ok(())
+}
+
+#[test]
+fn words_without_a_plan_touch_nothing(rt: HostRuntime) -> Result<(), Fail> {
+    let alloc = rt.alloc();
+    let lac = "node --role lac --number 1 --listen 127.0.0.1 --store s --turns";
+    assert!(rt;
+        ends(
+            alloc,
+            lac,
+            "1 --open",
+            NodeExit::Usage,
+            b"usage: l2tp node\n",
+            b""
+        )
+    );
+    assert!(rt; ends(alloc, LAC, "1 --version", NodeExit::Ok, b"l2tp 0\n", b""));
+    Ok(())
+}
+
+#[test]
+fn each_fault_is_told_as_its_own(rt: HostRuntime) -> Result<(), Fail> {
+    let alloc = rt.alloc();
+    let open = "2 --open";
+    assert!(rt;
+        fails(
+            alloc,
+            open,
+            (1, 0, 0, 0, 0),
+            NodeExit::LinkFault,
+            b"link fault\n"
+        )
+    );
+    assert!(rt;
+        fails(
+            alloc,
+            open,
+            (2, 0, 0, 0, 0),
+            NodeExit::LinkFault,
+            b"link fault\n"
+        )
+    );
+    assert!(rt;
+        fails(
+            alloc,
+            open,
+            (0, 1, 0, 0, 0),
+            NodeExit::EtherFault,
+            b"ether fault\n"
+        )
+    );
+    assert!(rt;
+        fails(
+            alloc,
+            open,
+            (0, 2, 0, 0, 0),
+            NodeExit::EtherFault,
+            b"ether fault\n"
+        )
+    );
+    assert!(rt;
+        fails(
+            alloc,
+            open,
+            (0, 0, 1, 0, 0),
+            NodeExit::UplinkFault,
+            b"uplink fault\n"
+        )
+    );
+    assert!(rt;
+        fails(
+            alloc,
+            open,
+            (0, 0, 2, 0, 0),
+            NodeExit::UplinkFault,
+            b"uplink fault\n"
+        )
+    );
+    for call in 1..=10 {
+        assert!(rt;
+            fails(
+                alloc,
+                open,
+                (0, 0, 0, call, 0),
+                NodeExit::StoreFault,
+                b"store fault\n"
+            ),
+            "call {call}"
+        );
+    }
+    assert!(rt; fails(alloc, open, (0, 0, 0, 0, 1), NodeExit::WriteFault, b""));
+    Ok(())
+}
