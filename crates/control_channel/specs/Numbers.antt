@@ -56,6 +56,10 @@ answer_to_tick n moment = if n.frozen then Quiet else window.answer_to_tick n.wi
 abbrev pub ticked_at : Numbers → ℕ → Numbers
 ticked_at n moment = if n.frozen then n else record n { window = window.ticked_at n.window moment }
 
+-- the moment from which on something is due
+abbrev pub due_of : Numbers → Option ℕ
+due_of n = if n.frozen then None else window.due_of n.window
+
 -- the place, from 0, of the letter with a number among those that are unacknowledged or unsent
 abbrev pub place_of : Numbers → ℕ → ℕ
 place_of n number = window.place_of n.window number

@@ -1,7 +1,7 @@
 //! The numbers of a channel, without its letters.
 
 ghost use Rattle.std.specs.Prelude.{◌≡◌, ◌<◌, ◌≤◌, ◌-◌, IfSome};
-ghost use Rattle.control_channel.specs.Numbers.{opened_at, is_full, one_more, count_acked, acked_at, class_told, taken_by, next_to_go, let_go_at, answer_to_tick, ticked_at, place_of, Holds, HoldsRepeated, wire_of, frozen_so, reset_at, learnt_by, next_given, next_unsent};
+ghost use Rattle.control_channel.specs.Numbers.{opened_at, is_full, one_more, count_acked, acked_at, class_told, taken_by, next_to_go, let_go_at, answer_to_tick, ticked_at, due_of, place_of, Holds, HoldsRepeated, wire_of, frozen_so, reset_at, learnt_by, next_given, next_unsent};
 
 use recv_window::{Class, Inbox};
 use send_window::{SendWindow, Tick};
@@ -120,6 +120,16 @@ impl ChannelNumbers {
             return Tick::Quiet;
         }
         self.window.tick(now)
+    }
+
+    /// The moment from which on something is due, in milliseconds; None where nothing is outstanding, and where it is frozen.
+    pub fn due(&self) -> Option<u64>
+        ensures { result ≡ due_of self.now }
+    {
+        if self.frozen {
+            return None;
+        }
+        self.window.due()
     }
 
     /// The place, from 0, of the letter with a number among those that are unacknowledged or unsent.

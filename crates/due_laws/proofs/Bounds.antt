@@ -12,9 +12,9 @@ use Rattle.end_model.specs.declared.tunnel.Call.{Call}
 use Rattle.end_model.specs.Tunnels.{Tunnel, Turn}
 use Rattle.end_model.specs.Events.{changed_at, with_calls, tunnel_after}
 use Rattle.end_model.specs.End.{End, tunnels_after, after_turn}
-use Rattle.due_laws.specs.Due.{earlier, earliest, channel_due, call_due, calls_due, tunnel_due, tunnels_due, end_due, IsNoLater, left_due, changed_due}
+use Rattle.tunnel_timers.specs.Due.{earlier, earliest, channel_due, call_due, calls_due, tunnel_due, tunnels_due, end_due, IsNoLater, left_due, changed_due}
 use Rattle.due_laws.specs.Ticks.{KeepBounds}
-use Rattle.due_laws.proofs.Moments.{earlier_same, earlier_on, bound_earlier, bound_both, below_bound, bound_holds, found_holds, put_holds, without_holds}
+use Rattle.tunnel_timers.specs.Moments.{earlier_same, earlier_on, bound_earlier, bound_both, below_bound, bound_holds, found_holds, put_holds, without_holds}
 
 -- ---- one value is put
 

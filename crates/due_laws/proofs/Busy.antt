@@ -28,9 +28,9 @@ use Rattle.end_model.specs.Codes.{not_in_time}
 use Rattle.end_model.specs.Linking.{links, ticks_link}
 use Rattle.end_model.specs.Ticking.{clears, greeted, greets, limits_at, limits_all, goes_quietly, ticks_by, ticks}
 use Rattle.end_model.specs.End.{End, env_of, Turned, tick_of, ticks_of, after_all, ticks_all}
-use Rattle.due_laws.specs.Due.{earliest, is_before, removal_due, repetition_due, hello_due, channel_due, setup_due, link_due, call_due, calls_due, due_of, tunnel_due, tunnels_due, end_due}
+use Rattle.tunnel_timers.specs.Due.{earliest, is_before, removal_due, repetition_due, hello_due, channel_due, setup_due, link_due, call_due, calls_due, due_of, tunnel_due, tunnels_due, end_due}
 use Rattle.due_laws.specs.Ticks.{count_done, CanEnd, CallsCanEnd}
-use Rattle.due_laws.proofs.Moments.{has_come, come_either}
+use Rattle.tunnel_timers.specs.Moments.{has_come, come_either}
 use Rattle.due_laws.proofs.Quiet.{and_on, some_wait}
 use Rattle.due_laws.proofs.Growing.{Does, first_does, then_does, either, settles_does, repeats_does, greeted_does, greets_does, clears_does, row_does, up_does, limits_does, quietly_does}
 

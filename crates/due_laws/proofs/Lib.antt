@@ -1,4 +1,3 @@
-mod Moments
 mod Quiet
 mod Bounds
 mod Growing

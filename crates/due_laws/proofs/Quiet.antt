@@ -18,8 +18,8 @@ use Rattle.end_model.specs.Calls.{is_up, is_set_up}
 use Rattle.end_model.specs.Tunnels.{Turn}
 use Rattle.end_model.specs.Linking.{links, ticks_link}
 use Rattle.end_model.specs.Ticking.{greets, limits_at, limits_all, goes_quietly, ticks_by, ticks}
-use Rattle.due_laws.specs.Due.{is_before, removal_due, repetition_due, hello_due, channel_due, setup_due, link_due, call_due, calls_due, due_of}
-use Rattle.due_laws.proofs.Moments.{waits_still, before_both, before_holds, found_holds}
+use Rattle.tunnel_timers.specs.Due.{is_before, removal_due, repetition_due, hello_due, channel_due, setup_due, link_due, call_due, calls_due, due_of}
+use Rattle.tunnel_timers.specs.Moments.{waits_still, before_both, before_holds, found_holds}
 
 -- ---- tests
 
@@ -78,7 +78,7 @@ module _ (role : Role) (letters : List Letter) (t : Turn) where
       (waits_still (nat_lt s 65536 && is_set_up c.state) patience c.since t.on.moment (omega arith) both.0)
       ∙ quiet_link s c c.link both.1
 
-  quiet_calls : (ss : List ℕ) (calls : List (ℕ × Call)) → is_before t.on.moment (calls_due calls) ≡ true → limits_all role letters ss calls t ≡ t
+  pub quiet_calls : (ss : List ℕ) (calls : List (ℕ × Call)) → is_before t.on.moment (calls_due calls) ≡ true → limits_all role letters ss calls t ≡ t
   unfolding limits_all
   quiet_calls [] calls h = refl
   quiet_calls (s ∷ ss) calls h =

@@ -1,7 +1,7 @@
 -- The tick of an end is that of its tunnels that are due: the others may be left out.
-use Rattle.std.proofs.Common.{◌≡◌, ℕ, Bool, true, false, cond, List, [], ◌∷◌, ◌++◌, Option, Some, None, refl, sym, ap, ◌∙◌, arith}
+use Rattle.std.proofs.Common.{◌≡◌, ℕ, Bool, true, false, List, [], ◌∷◌, ◌++◌, Option, Some, None, refl, sym, ap, ◌∙◌, arith}
 use Rattle.std.proofs.lemmas.List.{append-nil}
-use Rattle.std.specs.List.{AllByRecursion, filter, flat_map}
+use Rattle.std.specs.List.{AllByRecursion, flat_map}
 use Rattle.id_table.specs.Ids.{at, put, ids_of}
 use Rattle.id_table.specs.Order.{IsAbove, Ascends, ascends-put, ascends-without, at_other, at_without_other, put-again}
 use Rattle.wire_base.specs.declared.letter.Letter.{Letter}
@@ -12,9 +12,10 @@ use Rattle.end_model.specs.declared.moves.Move.{Move}
 use Rattle.end_model.specs.Tunnels.{Drawing, Ground, Tunnel, Env, Turn, turn_of}
 use Rattle.end_model.specs.Events.{turns, with_calls, tunnel_after}
 use Rattle.end_model.specs.End.{End, env_of, placed, with_looks, tunnels_after, after_turn, Turned, tick_of, ticks_of, end_after_all, after_all, ticks_all, step_in, plain_step}
-use Rattle.due_laws.specs.Due.{is_before, tunnel_due, end_due}
+use Rattle.tunnel_timers.specs.Due.{is_before, tunnel_due, end_due, LeavesOut, NoneLeft, Stays, Waits, IsEarly}
+use Rattle.tunnel_timers.specs.Bounds.{all_left_out}
 use Rattle.due_laws.specs.Ticks.{nothing_done}
-use Rattle.due_laws.proofs.Moments.{before_holds, found_holds}
+use Rattle.tunnel_timers.specs.Moments.{before_holds, found_holds}
 use Rattle.due_laws.proofs.Quiet.{quiet_turn}
 use Rattle.due_laws.proofs.Growing.{ticks_does}
 
@@ -98,76 +99,84 @@ module _ (e : End) (moment : ℕ) (block : List ℕ) where
         untouched = untouched_still x i r.cleared (tunnel_after r t.letters t.calls) is apart h.untouched.1;
       }
 
-  module _ (picks : ℕ → Bool) (early : (i : ℕ) (t : Tunnel) → at e.tunnels i ≡ Some t → picks i ≡ false → is_before moment (tunnel_due t) ≡ true) where
-    idle_turn : (i : ℕ) (t : Tunnel) → at e.tunnels i ≡ Some t → picks i ≡ false → turn_at t ≡ turn_of t.control start
-    unfolding turns
-    idle_turn i t there left = quiet_turn e.role t.letters (turn_of t.control start) t.calls (early i t there left)
+  abbrev EarlyAt : ℕ → Type 0
+  EarlyAt i = IsEarly e.tunnels moment i
 
-    -- the turns that are made, and those of them that are picked
-    abbrev made : List ℕ → List Turned
-    made is = ticks_of e start is
+  idle_turn : (i : ℕ) (t : Tunnel) → at e.tunnels i ≡ Some t → EarlyAt i → turn_at t ≡ turn_of t.control start
+  unfolding turns
+  idle_turn i t there early = quiet_turn e.role t.letters (turn_of t.control start) t.calls (early t there)
 
-    abbrev picked : List ℕ → List Turned
-    picked is = ticks_of e start (filter picks is)
+  -- the turns of these tunnels
+  abbrev made : List ℕ → List Turned
+  made is = ticks_of e start is
 
-    abbrev SameEnds : List ℕ → Type 0
-    SameEnds is = (x : End) → IsAmid is x → end_after_all (made is) x ≡ end_after_all (picked is) x
+  abbrev SameEnds : List ℕ → List ℕ → Type 0
+  SameEnds is js = (x : End) → IsAmid is x → end_after_all (made is) x ≡ end_after_all (made js) x
 
-    -- one more tunnel, which is picked or left out
-    ends_by : (i : ℕ) (is : List ℕ) → AllByRecursion (λ j. j ≡ i → ⊥) is → SameEnds is → (o : Option Tunnel) → at e.tunnels i ≡ o → (b : Bool) → picks i ≡ b → (x : End) → IsAmid (i ∷ is) x
-        → end_after_all (tick_of e start i o ++ made is) x ≡ end_after_all (ticks_of e start (cond b (i ∷ filter picks is) (filter picks is))) x
-    unfolding ticks_of end_after_all
-    ends_by i is apart later None there true is_picked x h = later x (amid_less i is x h) ∙ rw there refl
-    ends_by i is apart later None there false is_picked x h = later x (amid_less i is x h)
-    ends_by i is apart later (Some t) there true is_picked x h = later (after x i t) (amid_next x i t is apart h) ∙ rw there refl
-    ends_by i is apart later (Some t) there false is_picked x h =
-        ap (λ (r : Turn). end_after_all (made is) (after_turn x i t.letters t.calls r).end) (idle_turn i t there is_picked)
-        ∙ ap (end_after_all (made is)) (idle_end x i is t h there)
-        ∙ later x (amid_less i is x h)
+  -- one more tunnel, which is left out
+  ends_without : (i : ℕ) (is js : List ℕ) → EarlyAt i → SameEnds is js → (o : Option Tunnel) → at e.tunnels i ≡ o → (x : End) → IsAmid (i ∷ is) x
+      → end_after_all (tick_of e start i o ++ made is) x ≡ end_after_all (made js) x
+  unfolding end_after_all
+  ends_without i is js early later None there x h = later x (amid_less i is x h)
+  ends_without i is js early later (Some t) there x h =
+      ap (λ (r : Turn). end_after_all (made is) (after_turn x i t.letters t.calls r).end) (idle_turn i t there early)
+      ∙ ap (end_after_all (made is)) (idle_end x i is t h there)
+      ∙ later x (amid_less i is x h)
 
-    same_ends : (is : List ℕ) → AreApart is → SameEnds is
+  -- or takes its turn
+  ends_with : (i : ℕ) (is js : List ℕ) → AllByRecursion (λ j. j ≡ i → ⊥) is → SameEnds is js → (o : Option Tunnel) → at e.tunnels i ≡ o → (x : End) → IsAmid (i ∷ is) x
+      → end_after_all (tick_of e start i o ++ made is) x ≡ end_after_all (tick_of e start i o ++ made js) x
+  unfolding end_after_all
+  ends_with i is js apart later None there x h = later x (amid_less i is x h)
+  ends_with i is js apart later (Some t) there x h = later (after x i t) (amid_next x i t is apart h)
+
+  same_ends : (is js : List ℕ) → LeavesOut EarlyAt is js → AreApart is → SameEnds is js
+  unfolding ticks_of
+  same_ends is js NoneLeft apart x h = refl
+  same_ends is js (Stays i ks ls l) apart x h = ends_with i ks ls apart.0 (same_ends ks ls l apart.1) (at e.tunnels i) refl x h
+  same_ends is js (Waits i ks ls early l) apart x h = ends_without i ks ls early (same_ends ks ls l apart.1) (at e.tunnels i) refl x h
+
+  module _ {Y : Type 0} (f : Turn → List Y) (none : (t : Tunnel) → f (turn_of t.control start) ≡ []) where
+    abbrev given : List ℕ → List Y
+    given is = flat_map (λ t. f t.turn) (made is)
+
+    gives_without : (i : ℕ) (is js : List ℕ) → EarlyAt i → given is ≡ given js → (o : Option Tunnel) → at e.tunnels i ≡ o
+        → flat_map (λ t. f t.turn) (tick_of e start i o ++ made is) ≡ given js
+    gives_without i is js early later None there = later
+    gives_without i is js early later (Some t) there =
+        ap (λ (r : Turn). f r ++ given is) (idle_turn i t there early)
+        ∙ ap (λ ys. ys ++ given is) (none t)
+        ∙ later
+
+    gives_with : (i : ℕ) (is js : List ℕ) → given is ≡ given js → (o : Option Tunnel)
+        → flat_map (λ t. f t.turn) (tick_of e start i o ++ made is) ≡ flat_map (λ t. f t.turn) (tick_of e start i o ++ made js)
+    gives_with i is js later None = later
+    gives_with i is js later (Some t) = ap (λ ys. f (turn_at t) ++ ys) later
+
+    same_given : (is js : List ℕ) → LeavesOut EarlyAt is js → given is ≡ given js
     unfolding ticks_of
-    same_ends [] apart x h = refl
-    same_ends (i ∷ is) apart x h = ends_by i is apart.0 (same_ends is apart.1) (at e.tunnels i) refl (picks i) refl x h
+    same_given is js NoneLeft = refl
+    same_given is js (Stays i ks ls l) = gives_with i ks ls (same_given ks ls l) (at e.tunnels i)
+    same_given is js (Waits i ks ls early l) = gives_without i ks ls early (same_given ks ls l) (at e.tunnels i) refl
 
-    module _ {Y : Type 0} (f : Turn → List Y) (none : (t : Tunnel) → f (turn_of t.control start) ≡ []) where
-      gives_by : (i : ℕ) (is : List ℕ) → flat_map (λ t. f t.turn) (made is) ≡ flat_map (λ t. f t.turn) (picked is) → (o : Option Tunnel) → at e.tunnels i ≡ o → (b : Bool) → picks i ≡ b
-          → flat_map (λ t. f t.turn) (tick_of e start i o ++ made is) ≡ flat_map (λ t. f t.turn) (ticks_of e start (cond b (i ∷ filter picks is) (filter picks is)))
-      unfolding ticks_of
-      gives_by i is later None there true is_picked = later ∙ rw there refl
-      gives_by i is later None there false is_picked = later
-      gives_by i is later (Some t) there true is_picked = ap (λ ys. f (turn_at t) ++ ys) later ∙ rw there refl
-      gives_by i is later (Some t) there false is_picked =
-          ap (λ (r : Turn). f r ++ flat_map (λ t. f t.turn) (made is)) (idle_turn i t there is_picked)
-          ∙ ap (λ ys. ys ++ flat_map (λ t. f t.turn) (made is)) (none t)
-          ∙ later
-
-      same_given : (is : List ℕ) → flat_map (λ t. f t.turn) (made is) ≡ flat_map (λ t. f t.turn) (picked is)
-      unfolding ticks_of
-      same_given [] = refl
-      same_given (i ∷ is) = gives_by i is (same_given is) (at e.tunnels i) refl (picks i) refl
-
-    pub left_out : Ascends e.tunnels → ticks_all e start ≡ after_all (picked (ids_of e.tunnels)) e
-    unfolding ticks_all after_all
-    left_out ascend =
-        let is = ids_of e.tunnels in
-        let begun : IsAmid is e = record { tunnel_ids = refl; session_ids = refl; order = ascend; untouched = all_untouched is } in
-        ap (λ (x : End). record { end = x; outputs = flat_map (λ t. t.turn.outputs) (made is); moves = flat_map (λ t. t.turn.moves) (made is) }) (same_ends is (ids_apart e.tunnels ascend) e begun)
-        ∙ ap (λ (os : List Out). record { end = end_after_all (picked is) e; outputs = os; moves = flat_map (λ t. t.turn.moves) (made is) }) (same_given (λ t. t.outputs) (λ t. refl) is)
-        ∙ ap (λ (ms : List Move). record { end = end_after_all (picked is) e; outputs = flat_map (λ t. t.turn.outputs) (picked is); moves = ms }) (same_given (λ t. t.moves) (λ t. refl) is)
+  pub left_out : Ascends e.tunnels → (ids : List ℕ) → LeavesOut EarlyAt (ids_of e.tunnels) ids → ticks_all e start ≡ after_all (made ids) e
+  unfolding ticks_all after_all
+  left_out ascend ids left =
+      let is = ids_of e.tunnels in
+      let begun : IsAmid is e = record { tunnel_ids = refl; session_ids = refl; order = ascend; untouched = all_untouched is } in
+      ap (λ (x : End). record { end = x; outputs = flat_map (λ t. t.turn.outputs) (made is); moves = flat_map (λ t. t.turn.moves) (made is) }) (same_ends is ids left (ids_apart e.tunnels ascend) e begun)
+      ∙ ap (λ (os : List Out). record { end = end_after_all (made ids) e; outputs = os; moves = flat_map (λ t. t.turn.moves) (made is) }) (same_given (λ t. t.outputs) (λ t. refl) is ids left)
+      ∙ ap (λ (ms : List Move). record { end = end_after_all (made ids) e; outputs = flat_map (λ t. t.turn.outputs) (made ids); moves = ms }) (same_given (λ t. t.moves) (λ t. refl) is ids left)
 
 -- ---- all of them are left out
-
-none_picked : (is : List ℕ) → filter (λ i. false) is ≡ []
-none_picked [] = refl
-none_picked (i ∷ is) = none_picked is
 
 module _ (e : End) (ascend : Ascends e.tunnels) (moment : ℕ) (block : List ℕ) (early : is_before moment (end_due e) ≡ true) where
   pub quiet_end : ticks_all e (env_of e moment block) ≡ nothing_done e
   unfolding after_all ticks_of end_after_all
   quiet_end =
-      left_out e moment block (λ i. false) (λ i t there left. found_holds (λ due. is_before moment due ≡ true) (before_holds moment) (λ x. tunnel_due x.1) e.tunnels i t there early) ascend
-      ∙ ap (λ is. after_all (ticks_of e (env_of e moment block) is) e) (none_picked (ids_of e.tunnels))
+      left_out e moment block ascend []
+      (all_left_out (IsEarly e.tunnels moment) (ids_of e.tunnels)
+      (λ i t there. found_holds (λ due. is_before moment due ≡ true) (before_holds moment) (λ x. tunnel_due x.1) e.tunnels i t there early))
 
   pub quiet_step : plain_step e moment block Tick ≡ nothing_done e
   unfolding plain_step step_in

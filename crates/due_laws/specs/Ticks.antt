@@ -1,6 +1,5 @@
 -- Before it is due a tick changes nothing and gives nothing, and from then on it does something.
-use Rattle.std.specs.Prelude.{◌≡◌, ◌<◌, ℕ, ◌+◌, Bool, true, false, ◌||◌, if◌then◌else◌, List, [], length, Some}
-use Rattle.std.specs.List.{filter}
+use Rattle.std.specs.Prelude.{◌≡◌, ◌<◌, ℕ, ◌+◌, true, false, ◌||◌, if◌then◌else◌, List, [], length, Some}
 use Rattle.id_table.specs.Ids.{at, put, without, ids_of}
 use Rattle.id_table.specs.Order.{Ascends}
 use Rattle.wire_base.specs.declared.letter.Letter.{Letter}
@@ -11,9 +10,9 @@ use Rattle.end_model.specs.declared.tunnel.Call.{Call}
 use Rattle.end_model.specs.Calls.{row_for, is_set_up, is_told, is_clean_up}
 use Rattle.end_model.specs.Tunnels.{Tunnel, Turn}
 use Rattle.end_model.specs.Events.{tunnel_after}
-use Rattle.end_model.specs.Ticking.{ticks}
+use Rattle.end_model.specs.Ticking.{limits_all, ticks}
 use Rattle.end_model.specs.End.{End, Stepped, env_of, after_turn, ticks_of, after_all, ticks_all, plain_step}
-use Rattle.due_laws.specs.Due.{earlier, is_before, due_of, tunnel_due, tunnels_due, end_due, IsNoLater, changed_due}
+use Rattle.tunnel_timers.specs.Due.{earlier, is_before, calls_due, due_of, tunnel_due, tunnels_due, end_due, IsNoLater, changed_due, LeavesOut, IsEarly}
 
 -- ---- before it is due
 
@@ -23,13 +22,18 @@ EarlyTurnsStay =
     (role : Role) (letters : List Letter) (calls : List (ℕ × Call)) (t : Turn) → is_before t.on.moment (due_of t.control calls) ≡ true
     → ticks role letters calls t ≡ t
 
+-- and so does the part of it that looks at the tunnel's calls, before any of them is due
+abbrev pub EarlyCallsStay : Type 0
+EarlyCallsStay =
+    (role : Role) (letters : List Letter) (sessions : List ℕ) (calls : List (ℕ × Call)) (t : Turn) → is_before t.on.moment (calls_due calls) ≡ true
+    → limits_all role letters sessions calls t ≡ t
+
 -- Of the tick of an end those tunnels may be left out that aren't due, whichever others are: its tunnels ascend by their ids, as those of
 -- each end do.
 abbrev pub TunnelsMayBeLeftOut : Type 0
 TunnelsMayBeLeftOut =
-    (e : End) → Ascends e.tunnels → (moment : ℕ) (block : List ℕ) (picks : ℕ → Bool)
-    → ((i : ℕ) (t : Tunnel) → at e.tunnels i ≡ Some t → picks i ≡ false → is_before moment (tunnel_due t) ≡ true)
-    → let env = env_of e moment block in ticks_all e env ≡ after_all (ticks_of e env (filter picks (ids_of e.tunnels))) e
+    (e : End) → Ascends e.tunnels → (moment : ℕ) (block : List ℕ) (ids : List ℕ) → LeavesOut (IsEarly e.tunnels moment) (ids_of e.tunnels) ids
+    → let env = env_of e moment block in ticks_all e env ≡ after_all (ticks_of e env ids) e
 
 -- the step of an end in which nothing is done
 abbrev pub nothing_done : End → Stepped

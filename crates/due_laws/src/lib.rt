@@ -1,13 +1,14 @@
 //! When a tick of an end next does something: before that moment it changes nothing and gives nothing.
 #![tactic(auto)]
 
-ghost use Rattle.due_laws.specs.Ticks.{BoundsStay, DueTicksAct, DueTurnsAct, EarlyStepsDoNothing, EarlyTicksDoNothing, EarlyTurnsStay, PutsMoveDue, TunnelsMayBeLeftOut, TurnsMoveDue};
+ghost use Rattle.due_laws.specs.Ticks.{BoundsStay, DueTicksAct, DueTurnsAct, EarlyCallsStay, EarlyStepsDoNothing, EarlyTicksDoNothing, EarlyTurnsStay, PutsMoveDue, TunnelsMayBeLeftOut, TurnsMoveDue};
 
 /// Before the moment at which a tunnel is due, in milliseconds, its tick leaves the turn as it is: nothing of the tunnel changes, nothing is
-/// given, moved or drawn. Of the tick of an end whose tunnels ascend by their ids each tunnel may be left out that isn't due. So before the
+/// given, moved or drawn; and before any of its calls is due, so does the part of the tick that looks at its calls. Of the tick of an end whose tunnels ascend by their ids each tunnel may be left out that isn't due. So before the
 /// earliest of those moments the tick of the end leaves that very end, and has neither outputs nor moves.
 pub fn early_ticks_do_nothing()
     ensures turns { EarlyTurnsStay }
+    ensures calls { EarlyCallsStay }
     ensures tunnels { TunnelsMayBeLeftOut }
     ensures ends { EarlyTicksDoNothing }
     ensures steps { EarlyStepsDoNothing }

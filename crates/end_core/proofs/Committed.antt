@@ -106,17 +106,21 @@ drawing_stays d (t ∷ ts) e same quiet =
     let recoveries : e.recovery_ids ≡ d.recoveries = ap (λ (x : Drawing). x.recoveries) same in
     drawing_stays d ts (after_turn e t.id t.tunnel.letters t.tunnel.calls t.turn).end (rw (quiet.0, recoveries) refl) quiet.1
 
-ticks_at_once : (v : End) (moment : ℕ) (block : List ℕ) → contents_of v (ticks_all v (env_of v moment block)) ≡ ticks_leave (ticks_of v (env_of v moment block) (ids_of v.tunnels)) (env_of v moment block)
-unfolding contents_of ticks_all after_all with_ticks
-ticks_at_once v moment block =
-    let ts = ticks_of v (env_of v moment block) (ids_of v.tunnels) in
-    ap (λ (d : Drawing). leaves (drawing_of v) d (flat_map (λ (t : Turned). t.turn.moves) ts)) (drawing_stays (drawing_of v) ts v refl (all_quiet v (env_of v moment block) (ids_of v.tunnels)))
+ticks_at_once : (v : End) (moment : ℕ) (block : List ℕ) (is : List ℕ) → ticks_all v (env_of v moment block) ≡ after_all (ticks_of v (env_of v moment block) is) v
+    → contents_of v (ticks_all v (env_of v moment block)) ≡ ticks_leave (ticks_of v (env_of v moment block) is) (env_of v moment block)
+unfolding contents_of after_all with_ticks
+ticks_at_once v moment block is others =
+    let ts = ticks_of v (env_of v moment block) is in
+    ap (contents_of v) others
+    ∙ ap (λ (d : Drawing). leaves (drawing_of v) d (flat_map (λ (t : Turned). t.turn.moves) ts)) (drawing_stays (drawing_of v) ts v refl (all_quiet v (env_of v moment block) is))
 
-pub tick_records : (v w : End) → v ≡ w → (start : Env) (moment : ℕ) (block : List ℕ) (es : List (ℕ × Core)) → v.tunnels ≡ tunnels_of es → start ≡ env_of w moment block
-    → contents_of w (ticks_all w (env_of w moment block)) ≡ ticks_leave (ticks_at v.role v.config es start (ids_of es)) start
-tick_records v w same start moment block es tunnels begun =
-    let are : ticks_at v.role v.config es start (ids_of es) ≡ ticks_of v start (ids_of v.tunnels) = ticks_are v es start tunnels in
-    rw (are, same, begun) (ticks_at_once w moment block)
+-- those of the tunnels that aren't left out
+pub tick_records : (v w : End) → v ≡ w → (start : Env) (moment : ℕ) (block : List ℕ) (es : List (ℕ × Core)) (is : List ℕ) → v.tunnels ≡ tunnels_of es → start ≡ env_of w moment block
+    → ticks_all v (env_of v moment block) ≡ after_all (ticks_of v (env_of v moment block) is) v
+    → contents_of w (ticks_all w (env_of w moment block)) ≡ ticks_leave (ticks_at v.role v.config es start is) start
+tick_records v w same start moment block es is tunnels begun others =
+    let are : ticks_at v.role v.config es start is ≡ ticks_of v start is = ticks_are v es start is tunnels in
+    rw (are, same, begun) (ticks_at_once w moment block is (subst (λ (x : End). ticks_all x (env_of x moment block) ≡ after_all (ticks_of x (env_of x moment block) is) x) same others))
 
 pub ticks_planned : (start env : Env) (before : Drawing) (ts : List Turned) (ms : List Move) → before ≡ start.ids → env ≡ with_ticks ts start → ms ≡ env.moves → ticks_leave ts start ≡ leaves before before ms
 ticks_planned start env before ts ms drew given moves = rw (moves, drew, given) refl

@@ -11,7 +11,9 @@ use Rattle.std.specs.Ordering.{nat_cmp}
 use Rattle.std.specs.BTreeMap.{is_at}
 use Rattle.std.proofs.lemmas.Bool.Decides.{nat_tests}
 use Rattle.id_table.specs.Ids.{at, ids_of, is_at-same}
-use Rattle.id_table.specs.Order.{at_other, at_without_other}
+use Rattle.id_table.specs.Order.{Ascends, at_other, at_without_other}
+use Rattle.tunnel_timers.specs.Due.{LeavesOut, IsEarly}
+use Rattle.due_laws.specs.Ticks.{TunnelsMayBeLeftOut}
 use Rattle.id_table.specs.Tables.{Kept}
 use Rattle.end_model.specs.declared.tunnel.CallPlace.{CallPlace}
 use Rattle.session_looks.specs.declared.look.CellChange.{CellChange}
@@ -97,16 +99,11 @@ pub after_apart : (i : ℕ) (is : List ℕ) → IsStrictlySortedBy nat_cmp (i �
 unfolding IsStrictlySortedBy
 after_apart i is h = (below_apart i is h.0, h.1)
 
-some_by : {X : Type 0} (b : Bool) (v : X) (o : Option X) → IsSome o → IsSome (cond b (Some v) o)
-some_by true v o h = refl
-some_by false v o h = h
-
--- each id has its tunnel
-pub tunnel_there : {X : Type 0} (es : List (ℕ × X)) (k : ℕ) → k < length (ids_of es) → IsSome (at es (get_or (ids_of es) k 0))
-unfolding at
-tunnel_there [] k lt = absurd (omega (arith, lt))
-tunnel_there (e ∷ es) zero lt = rw (is_at-same e.0 e.0, eq-eqb e.0 e.0 refl) refl
-tunnel_there (e ∷ es) (suc k) lt = some_by (is_at (nat_cmp (get_or (ids_of es) k 0)) e.0) e.1 _ (tunnel_there es k (omega (arith, lt)))
+-- what holds of all ids holds of the one at each place
+all_got : (P : ℕ → Type 0) (is : List ℕ) (k : ℕ) → k < length is → AllByRecursion P is → P (get_or is k 0)
+all_got P [] k lt h = absurd (omega (arith, lt))
+all_got P (i ∷ is) zero lt h = h.0
+all_got P (i ∷ is) (suc k) lt h = all_got P is k (omega (arith, lt)) h.1
 
 tunnel_some_by : (o : Option Core) → IsSome o → IsSome (option_map tunnel_of o)
 tunnel_some_by None h = h
@@ -185,10 +182,9 @@ module _ (role : Role) (c : Config) (es : List (ℕ × Core)) (env : Env) where
     all_are : ticks_at role c es env (take (k + 1) is) ≡ ticks_at role c es env (take k is) ++ tick_at role c es env next
     all_are = ticks_next (with_tunnels role c es) env is k lt
 
-    pub there : is ≡ ids_of es → IsSome (at old.entries next)
-    there are =
-        let lt2 : k < length (ids_of es) = subst (λ (js : List ℕ). k < length js) are lt in
-        some_tunnel old.entries next (subst (λ (ts : List (ℕ × Tunnel)). IsSome (at ts next)) (sym h.same) (tunnel_some es next (subst (λ (js : List ℕ). IsSome (at es (get_or js k 0))) (sym are) (tunnel_there es k lt2))))
+    pub there : AllByRecursion (λ i. IsSome (at (tunnels_of es) i)) is → IsSome (at old.entries next)
+    there all =
+        some_tunnel old.entries next (subst (λ (ts : List (ℕ × Tunnel)). IsSome (at ts next)) (sym h.same) (all_got (λ i. IsSome (at (tunnels_of es) i)) is k lt all))
 
     pub next_planned : (p : Plan) → tunnels_of new.entries ≡ tunnels_of old.entries → ((q : ℕ) → q ≢ next → at new.entries q ≡ at old.entries q) → ArePlanned ((next, p) ∷ []) (tick_at role c old.entries now next) → HasPlace new (next, p) → later ≡ with_ticks (tick_at role c old.entries now next) now → (qs : List (ℕ × Plan)) → qs ≡ ps ++ (next, p) ∷ [] → AllPlanned role c es env (take (k + 1) is) new later qs
     next_planned p same others planned place given qs are =
@@ -283,36 +279,39 @@ untouched v [] = tt
 untouched v (p ∷ ps) = (refl, untouched v ps)
 
 -- a turn asks nothing of an end but its role, its configuration and the tunnel
-ticks_like : (v : End) (es : List (ℕ × Core)) (env : Env) (is : List ℕ) → v.tunnels ≡ tunnels_of es → ticks_at v.role v.config es env is ≡ ticks_of v env is
+pub ticks_are : (v : End) (es : List (ℕ × Core)) (env : Env) (is : List ℕ) → v.tunnels ≡ tunnels_of es → ticks_at v.role v.config es env is ≡ ticks_of v env is
 unfolding ticks_of
-ticks_like v es env [] same = refl
-ticks_like v es env (i ∷ is) same =
-    ap (λ ts. tick_at v.role v.config es env i ++ ts) (ticks_like v es env is same) ∙ ap (λ (tunnels : List (ℕ × Tunnel)). tick_of v env i (at tunnels i) ++ ticks_of v env is) (sym same)
-
--- the turns of all tunnels, as they are planned
-pub ticks_are : (v : End) (es : List (ℕ × Core)) (env : Env) → v.tunnels ≡ tunnels_of es → ticks_at v.role v.config es env (ids_of es) ≡ ticks_of v env (ids_of v.tunnels)
-ticks_are v es env same = ticks_like v es env (ids_of es) same ∙ ap (ticks_of v env) (sym (ap ids_of same ∙ ids_tunnels es))
+ticks_are v es env [] same = refl
+ticks_are v es env (i ∷ is) same =
+    ap (λ ts. tick_at v.role v.config es env i ++ ts) (ticks_are v es env is same) ∙ ap (λ (tunnels : List (ℕ × Tunnel)). tick_of v env i (at tunnels i) ++ ticks_of v env is) (sym same)
 
 same_parts : (s u : Stepped) → s.end ≡ u.end → s.outputs ≡ u.outputs → s.moves ≡ u.moves → s ≡ u
 same_parts s u a b c = ap (λ (x : End). record { end = x; outputs = s.outputs; moves = s.moves }) a ∙ ap (λ (x : List Out). record { end = u.end; outputs = x; moves = s.moves }) b ∙ ap (λ (x : List Move). record { end = u.end; outputs = u.outputs; moves = x }) c
 
--- what is planned of all turns, and the environment that took in what they gave
-module _ (v : End) (moment : ℕ) (block : List ℕ) (es : List (ℕ × Core)) (same : v.tunnels ≡ tunnels_of es) (ps : List (ℕ × Plan)) (ascend : IsStrictlySortedBy nat_cmp (ids_of ps)) where
+-- those tunnels aren't due that aren't among these, so the tick is that of these
+pub others_wait : (v : End) (moment : ℕ) (block : List ℕ) (is : List ℕ) → TunnelsMayBeLeftOut → Ascends v.tunnels → (js : List ℕ) → is ≡ js → LeavesOut (IsEarly v.tunnels moment) (ids_of v.tunnels) js
+    → ticks_all v (env_of v moment block) ≡ after_all (ticks_of v (env_of v moment block) is) v
+others_wait v moment block is law ascend js same left =
+    law v ascend moment block is (subst (λ (ks : List ℕ). LeavesOut (IsEarly v.tunnels moment) (ids_of v.tunnels) ks) (sym same) left)
+
+-- what is planned of the turns of these tunnels, where the others may be left out, and the environment that took in what they gave
+module _ (v : End) (moment : ℕ) (block : List ℕ) (es : List (ℕ × Core)) (same : v.tunnels ≡ tunnels_of es) (is : List ℕ) (ps : List (ℕ × Plan)) (ascend : IsStrictlySortedBy nat_cmp (ids_of ps)) where
   abbrev start : Env
   start = env_of v moment block
 
   abbrev turned : List Turned
-  turned = ticks_of v start (ids_of v.tunnels)
+  turned = ticks_of v start is
 
-  turned_are : ticks_at v.role v.config es start (ids_of es) ≡ turned
-  turned_are = ticks_are v es start same
+  turned_are : ticks_at v.role v.config es start is ≡ turned
+  turned_are = ticks_are v es start is same
 
-  pub all_is : (env : Env) (s : Stepped) → ArePlanned ps (ticks_at v.role v.config es start (ids_of es)) → env ≡ with_ticks (ticks_at v.role v.config es start (ids_of es)) start → s.end ≡ record v { tunnels = after_plans ps v.tunnels; calls = with_looks env.changes v.calls } → s.outputs ≡ env.outputs → s.moves ≡ env.moves → ticks_all v start ≡ s
-  unfolding ticks_all after_all with_ticks
-  all_is env s planned given end outputs moves =
+  pub all_is : ticks_all v start ≡ after_all turned v → (env : Env) (s : Stepped) → ArePlanned ps (ticks_at v.role v.config es start is) → env ≡ with_ticks (ticks_at v.role v.config es start is) start → s.end ≡ record v { tunnels = after_plans ps v.tunnels; calls = with_looks env.changes v.calls } → s.outputs ≡ env.outputs → s.moves ≡ env.moves → ticks_all v start ≡ s
+  unfolding after_all with_ticks
+  all_is others env s planned given end outputs moves =
       let now : env ≡ with_ticks turned start = given ∙ ap (λ ts. with_ticks ts start) turned_are in
-      let ended = all_left v start (ids_of v.tunnels) ps (subst (λ ts. ArePlanned ps ts) turned_are planned) ascend v refl refl (untouched v ps) in
-      same_parts (ticks_all v start) s
+      let ended = all_left v start is ps (subst (λ ts. ArePlanned ps ts) turned_are planned) ascend v refl refl (untouched v ps) in
+      others
+      ∙ same_parts (after_all turned v) s
       (ended ∙ ap (λ (x : Env). record v { tunnels = after_plans ps v.tunnels; calls = with_looks x.changes v.calls }) (sym now) ∙ sym end)
       (sym (outputs ∙ ap (λ (x : Env). x.outputs) now))
       (sym (moves ∙ ap (λ (x : Env). x.moves) now))

@@ -1,6 +1,7 @@
-//! An end's tick: the turn of each tunnel is planned, and then all are made.
+//! An end's tick: the turn of each tunnel in which something is due is planned, and then all are made.
 
 ghost use Rattle.std.specs.Prelude.{ℕ, ◌≡◌, ◌∷◌, [], ◌≢◌, IfOk, OnOk, IsSome};
+ghost use Rattle.std.specs.List.{AllByRecursion};
 ghost use Rattle.std.specs.List.Sorted.{IsStrictlySortedBy};
 ghost use Rattle.std.specs.Ordering.{nat_cmp};
 ghost use Rattle.id_table.specs.Ids.{at, ids_of};
@@ -14,6 +15,7 @@ ghost use Rattle.tunnel_table.specs.Tunnels.{tunnels_of};
 use crate::end::{End, Given};
 use crate::planning::spaces_of;
 use call_places::change_looks;
+use due_laws::early_ticks_do_nothing;
 use end_model::{Config, Event, Role};
 use std::alloc::Global;
 use step_ledger::{Ledger, StepFault};
@@ -43,30 +45,32 @@ fn plan_at(
     tunnels.plan(role, config, env, id, &Event::Tick)
 }
 
-/// Plans the turns of all tunnels, and makes room for them. What the tunnels stand for is as before.
+/// Plans the turns of these tunnels, and makes room for them. What the tunnels stand for is as before.
 fn plan_all(
     tunnels: &mut TunnelTable,
     alloc: Global,
     role: Role,
     config: &Config,
     env: &mut Env,
+    ids: &[u32],
 ) -> Result<Plans, NoMemory>
+    requires ascend { IsStrictlySortedBy nat_cmp ids.now }
+    requires there { AllByRecursion (λ i. IsSome (at (tunnels_of tunnels.old.entries) i)) ids.now }
     ensures same { tunnels_of tunnels.new.entries ≡ tunnels_of tunnels.old.entries }
-    ensures planned { IfOk result (λ ps. ArePlanned ps (ticks_at role config.now tunnels.old.entries env.old (ids_of tunnels.old.entries))) }
+    ensures planned { IfOk result (λ ps. ArePlanned ps (ticks_at role config.now tunnels.old.entries env.old ids.now)) }
     ensures ascend { IfOk result (λ ps. IsStrictlySortedBy nat_cmp (ids_of ps)) }
     ensures places { IfOk result (λ ps. HavePlaces tunnels.new ps) }
-    ensures given { OnOk result (env.new ≡ with_ticks (ticks_at role config.now tunnels.old.entries env.old (ids_of tunnels.old.entries)) env.old) }
+    ensures given { OnOk result (env.new ≡ with_ticks (ticks_at role config.now tunnels.old.entries env.old ids.now) env.old) }
 {
-    let ids = tunnels.ids(alloc)?;
     let mut plans = Plans::new(alloc);
-    for id in ids.as_slice() {
+    for id in ids {
         let planned = plan_at(tunnels, role, config, env, *id)?;
         plans.push((*id, planned))?;
     }
     Ok(plans)
 }
 
-/// Plans the turns of all tunnels, makes room for them, and commits what they leave. What the tunnels stand for is as before.
+/// Plans the turns of these tunnels, makes room for them, and commits what they leave. What the tunnels stand for is as before.
 fn plan_ticks<L: Ledger>(
     ledger: &mut L,
     alloc: Global,
@@ -74,17 +78,20 @@ fn plan_ticks<L: Ledger>(
     config: &Config,
     tunnels: &mut TunnelTable,
     env: &mut Env,
+    ids: &[u32],
 ) -> Result<Plans, StepFault<L::Stop>>
-    requires { L.can_commit ledger.old }
+    requires ledger { L.can_commit ledger.old }
+    requires ascend { IsStrictlySortedBy nat_cmp ids.now }
+    requires there { AllByRecursion (λ i. IsSome (at (tunnels_of tunnels.old.entries) i)) ids.now }
     ensures same { tunnels_of tunnels.new.entries ≡ tunnels_of tunnels.old.entries }
-    ensures planned { IfOk result (λ ps. ArePlanned ps (ticks_at role config.now tunnels.old.entries env.old (ids_of tunnels.old.entries))) }
+    ensures planned { IfOk result (λ ps. ArePlanned ps (ticks_at role config.now tunnels.old.entries env.old ids.now)) }
     ensures ascend { IfOk result (λ ps. IsStrictlySortedBy nat_cmp (ids_of ps)) }
     ensures places { IfOk result (λ ps. HavePlaces tunnels.new ps) }
-    ensures given { OnOk result (env.new ≡ with_ticks (ticks_at role config.now tunnels.old.entries env.old (ids_of tunnels.old.entries)) env.old) }
-    ensures committed { Commits L.commits_to result (ticks_leave (ticks_at role config.now tunnels.old.entries env.old (ids_of tunnels.old.entries)) env.old) ledger.old ledger.new }
+    ensures given { OnOk result (env.new ≡ with_ticks (ticks_at role config.now tunnels.old.entries env.old ids.now) env.old) }
+    ensures committed { Commits L.commits_to result (ticks_leave (ticks_at role config.now tunnels.old.entries env.old ids.now) env.old) ledger.old ledger.new }
 {
     let drawing = spaces_of(env);
-    let plans = plan_all(tunnels, alloc, role, config, env)?;
+    let plans = plan_all(tunnels, alloc, role, config, env, ids)?;
     commit_step(alloc, ledger, &drawing, &drawing, env.moves.as_slice())?;
     Ok(plans)
 }
@@ -102,7 +109,8 @@ fn make_all(tunnels: &mut TunnelTable, plans: Plans)
 }
 
 impl End {
-    /// Time passes: each tunnel takes its turn. Where memory is wanting, the end is as before.
+    /// Time passes: each tunnel takes its turn. Those in which nothing is due aren't looked at, and where nothing is due in any it takes
+    /// no memory. Where memory is wanting, the end is as before.
     pub fn tick_all<L: Ledger>(
         &mut self,
         ledger: &mut L,
@@ -114,6 +122,8 @@ impl End {
         ensures committed { CommitsStep L.commits_to result (ticks_all self.old (env_of self.old moment block)) self.old ledger.old ledger.new }
         ensures role { self.new.role ≡ self.old.role }
     {
+        early_ticks_do_nothing();
+        let ids = self.tunnels.ids_due(self.alloc, moment)?;
         let mut env = self.env(moment, block);
         let plans = plan_ticks(
             ledger,
@@ -122,8 +132,10 @@ impl End {
             &self.config,
             &mut self.tunnels,
             &mut env,
+            ids.as_slice(),
         )?;
         make_all(&mut self.tunnels, plans);
+        self.tunnels.look_again(self.alloc, moment);
         change_looks(&mut self.calls, env.changes.as_slice());
         Ok(Given::of(env))
     }

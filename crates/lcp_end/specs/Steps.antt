@@ -1,5 +1,5 @@
 -- What an end does at each call: the next state, and what it gives (RFC 1661 sections 4.3 to 4.6).
-use Rattle.std.specs.Prelude.{ℕ, ◌+◌, ◌-◌, ◌%◌, ◌^◌, Bool, true, false, ◌==◌, ◌&&◌, ◌||◌, nat_lt, nat_le, if◌then◌else◌, List, [], ◌∷◌, ◌++◌, length, Option, Some, None}
+use Rattle.std.specs.Prelude.{ℕ, ◌+◌, ◌-◌, ◌%◌, ◌^◌, Bool, true, false, ◌==◌, ◌&&◌, ◌||◌, nat_lt, nat_le, min, if◌then◌else◌, List, [], ◌∷◌, ◌++◌, length, Option, Some, None}
 use Rattle.lcp_wire.specs.declared.packet.Lcp.{Lcp}
 use Rattle.std.specs.Result.{result_ok}
 use Rattle.lcp_wire.specs.Spelling.{packet_bytes}
@@ -128,6 +128,10 @@ is_timed k = nat_le 4 (state_number k.state) && nat_le (state_number k.state) 8
 -- 3 seconds have passed since it was started; where the moment is below the kept one, no time has
 abbrev pub is_due : ℕ → EndState → Bool
 is_due moment k = is_timed k && nat_le 3000 (moment - k.since)
+
+-- the moment from which on they have, which stops at the last one of 64 bits: none where nothing is waited for
+abbrev pub due_of : EndState → Option ℕ
+due_of k = if is_timed k then Some (min (k.since + 3000) (2 ^ 64 - 1)) else None
 
 abbrev pub time_out : EndState → LcpEvent
 time_out k = if nat_lt 0 k.restarts then ToMore else ToLast

@@ -4,7 +4,7 @@ ghost use Rattle.std.specs.Prelude.{◌≡◌, ◌≤◌, length, OnOk, OnErr, I
 ghost use Rattle.std.specs.Result.{result_ok};
 ghost use Rattle.lcp_wire.specs.Reading.{packet_of};
 ghost use Rattle.lcp_end.specs.Packets.{ArePackets};
-ghost use Rattle.lcp_end.specs.Steps.{fresh, is_opened, joined, opened, closed, is_due, time_out, ticked, after_heard, after_read, after_packet};
+ghost use Rattle.lcp_end.specs.Steps.{fresh, is_opened, joined, opened, closed, is_timed, is_due, due_of, time_out, ticked, after_heard, after_read, after_packet};
 
 use crate::hearing::hear;
 use crate::options::not_zero;
@@ -73,6 +73,16 @@ impl LcpEnd {
         ensures { result ≡ is_due now self.now }
     {
         is_due(&self.kept, now)
+    }
+
+    /// The moment from which on it was waited for long enough, in milliseconds; None where nothing is waited for.
+    pub fn due(&self) -> Option<u64>
+        ensures { result ≡ due_of self.now }
+    {
+        if !is_timed(&self.kept) {
+            return None;
+        }
+        Some(self.kept.since.saturating_add(WAIT))
     }
 
     // What a step gave is given on, and the end is as after it.
@@ -154,12 +164,19 @@ impl LcpEnd {
     }
 }
 
+/// Whether an answer is waited for.
+fn is_timed(kept: &EndState) -> bool
+    ensures { result ≡ is_timed kept.now }
+{
+    let state = kept.state.number();
+    4 <= state && state <= 8
+}
+
 /// Whether an answer was waited for long enough.
 fn is_due(kept: &EndState, now: u64) -> bool
     ensures { result ≡ is_due now kept.now }
 {
-    let state = kept.state.number();
-    4 <= state && state <= 8 && WAIT <= now.saturating_sub(kept.since)
+    is_timed(kept) && WAIT <= now.saturating_sub(kept.since)
 }
 
 fn time_out(kept: &EndState) -> LcpEvent

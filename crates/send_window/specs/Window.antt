@@ -64,6 +64,10 @@ is_due outstanding repetitions since moment =
 abbrev pub due_at : Window → ℕ → Bool
 due_at w moment = is_due w.outstanding w.repetitions w.since moment
 
+-- the moment from which on it is over, which stops at the last one of 64 bits: none where nothing is outstanding
+abbrev pub due_of : Window → Option ℕ
+due_of w = if nat_lt 0 w.outstanding then Some (min (w.since + wait_after w.repetitions) (2 ^ 64 - 1)) else None
+
 -- the oldest letter is repeated five times; then the channel has failed
 abbrev pub answer_to_tick : Window → ℕ → Tick
 answer_to_tick w moment =

@@ -1,7 +1,7 @@
 //! The numbers of a channel's letters, without the letters.
 
 ghost use Rattle.std.specs.Prelude.{◌≡◌, ◌<◌, ◌≤◌, ◌↔◌, ◌-◌, nat_le, IsTrue, IfSome};
-ghost use Rattle.send_window.specs.Window.{opened_at, one_more, acked_at, count_acked, let_go_at, next_to_go, ticked_at, answer_to_tick, learnt_by, next_unsent, next_given, place_of, wait_after, Holds, HoldsRepeated};
+ghost use Rattle.send_window.specs.Window.{opened_at, one_more, acked_at, count_acked, let_go_at, next_to_go, ticked_at, answer_to_tick, learnt_by, next_unsent, next_given, place_of, wait_after, due_of, Holds, HoldsRepeated};
 
 use crate::congestion::Congestion;
 use std::marker::Model;
@@ -144,6 +144,16 @@ impl SendWindow {
         self.since = now;
         self.congestion = self.congestion.halve();
         Tick::Again { number: self.acked }
+    }
+
+    /// The moment from which on the timer asks for something, in milliseconds; None where nothing is outstanding.
+    pub fn due(&self) -> Option<u64>
+        ensures { result ≡ due_of self.now }
+    {
+        if self.outstanding == 0 {
+            return None;
+        }
+        Some(self.since.saturating_add(wait_after(self.repetitions)))
     }
 
     /// Forgets all letters: the numbers go on from `first`, and the peer's window stays.

@@ -1,4 +1,4 @@
-//! The calls of a tunnel, by session id, with how many letters they owe.
+//! The calls of a tunnel, by session id, with how many letters they owe, and with a moment before which none of them is due.
 #![tactic(auto)]
 
 ghost use Rattle.std.specs.Prelude.{◌≡◌, ◌<◌, ◌^◌, [], find, OnOk, IfOk, option_copied, option_map};
@@ -7,6 +7,7 @@ ghost use Rattle.id_table.specs.Tables.{HasRoom, KeepsRoom};
 ghost use Rattle.end_model.specs.Calls.{owes, owed_by, are_too_many};
 ghost use Rattle.end_model.specs.Owing.{owed_at};
 ghost use Rattle.end_model.specs.Asking.{is_call_of, call_of, session_named};
+ghost use Rattle.tunnel_timers.specs.Due.{IsNoLater, bound_of, call_due, calls_due, due_at, earliest_at};
 
 use call_fsm::CallState;
 use end_model::Call;
@@ -14,6 +15,7 @@ use id_index::Index;
 use id_table::Table;
 use std::alloc::Global;
 use std::marker::Model;
+use tunnel_timers::call_due;
 use wire_base::{NoMemory, Sequence};
 
 /// How many live calls a tunnel has at most.
@@ -50,12 +52,25 @@ fn remote_of(call: Option<&Call>) -> Option<u64>
     }
 }
 
+/// When something is due for the call of a session, if there is one.
+fn due_at(session: u32, call: Option<&Call>) -> u64
+    ensures { result ≡ bound_of (due_at (λ c. call_due c.0 c.1) session (option_copied call.entry)) }
+{
+    match call {
+        Some(call) => call_due(session, call),
+        None => u64::MAX,
+    }
+}
+
 /// The calls of a tunnel by session id, seen as their table. How many letters they owe is kept beside it, so that what it takes
 /// to know it doesn't grow with the calls, and so is an index of the calls by the ids that the peer assigned.
 #[derive(Drop)]
 pub struct TunnelCalls {
+    alloc: Global,
     table: Table<Call>,
     owed: u128,
+    /// A moment before which none of them is due, in milliseconds. As calls change it only falls, until they are looked at again.
+    due: u64,
     /// The sessions by the ids that the peer assigned.
     remotes: Index,
 }
@@ -66,6 +81,7 @@ impl Model for TunnelCalls {
     ghost use Rattle.id_table.specs.Order.{Ascends};
     ghost use Rattle.end_model.specs.declared.tunnel.Call.{Call};
     ghost use Rattle.end_model.specs.Calls.{owed_by};
+    ghost use Rattle.tunnel_timers.specs.Due.{IsNoLater, calls_due};
     ghost use Rattle.id_index.specs.Indexes.{Lists, IsWithin};
     ghost use Rattle.tunnel_calls.specs.Remotes.{remotes_of};
 
@@ -73,7 +89,7 @@ impl Model for TunnelCalls {
 
     ghost view = { λ c. c.table };
 
-    ghost invariant = { λ c. Ascends c.table.entries × (c.owed ≡ owed_by c.table.entries) × IsWithin c.table.entries × Lists c.remotes (remotes_of c.table.entries) };
+    ghost invariant = { λ c. Ascends c.table.entries × (c.owed ≡ owed_by c.table.entries) × IsWithin c.table.entries × Lists c.remotes (remotes_of c.table.entries) × IsNoLater c.due (calls_due c.table.entries) };
 }
 
 impl TunnelCalls {
@@ -82,8 +98,10 @@ impl TunnelCalls {
         ensures { result.entries ≡ [] }
     {
         TunnelCalls {
+            alloc,
             table: Table::new(alloc),
             owed: 0,
+            due: u64::MAX,
             remotes: Index::new(alloc),
         }
     }
@@ -153,6 +171,28 @@ impl TunnelCalls {
         self.owed
     }
 
+    /// A moment before which nothing is due for any of the calls, in milliseconds.
+    pub fn due(&self) -> u64
+        ensures { IsNoLater result (calls_due self.now.entries) }
+    {
+        let _count = self.table.len();
+        self.due
+    }
+
+    /// Looks at all calls where that moment has come, so that it is the one at which something is due for one of them. Where memory is
+    /// wanting, it stays.
+    pub fn look_again(&mut self, moment: u64)
+        ensures { self.new ≡ self.old }
+    {
+        if moment < self.due {
+            return;
+        }
+        let Ok(sessions) = self.table.ids(self.alloc) else {
+            return;
+        };
+        self.due = earliest_due(&self.table, sessions.as_slice());
+    }
+
     /// Makes room for a call at a session id, and for the id that the peer assigned to it. Where memory is wanting, the calls are
     /// as before.
     pub fn make_room(&mut self, session: u32, call: Option<&Call>) -> Result<(), NoMemory>
@@ -177,6 +217,7 @@ impl TunnelCalls {
         let known = remote_of(self.table.get(session));
         self.remotes
             .relabel(session, known, Some(u64::from(call.remote)));
+        self.due = self.due.min(call_due(session, &call));
         self.table.fill(session, call);
         self.owed -= u128::from(before);
     }
@@ -214,4 +255,16 @@ fn first_of(calls: &TunnelCalls, remote: u16, sessions: &[u32]) -> Option<u32>
         }
     }
     None
+}
+
+/// When something is first due for one of these calls.
+#[tactic(auto, using(tunnel_timers::specs::Bounds::bound_earlier_is), unfolding(tunnel_timers::specs::Due::earliest_at))]
+fn earliest_due(table: &Table<Call>, sessions: &[u32]) -> u64
+    ensures { result ≡ bound_of (earliest_at (λ c. call_due c.0 c.1) table.now.entries sessions.now) }
+{
+    let mut due = u64::MAX;
+    for session in sessions {
+        due = due.min(due_at(*session, table.get(*session)));
+    }
+    due
 }

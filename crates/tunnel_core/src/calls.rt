@@ -13,7 +13,8 @@ use control_message::Message;
 use end_model::{Call, EndHeard, FirstUp, Move, Role};
 use message_reading::out_of_state;
 use session_looks::CellChange;
-use tunnel_rules::{advanced, call_row, is_clean_up, is_connection, is_up};
+use tunnel_rules::{advanced, call_row, is_clean_up, is_connection};
+use tunnel_timers::is_up;
 use wire_base::{NoMemory, Why};
 
 /// Learns the peer's session, and connects the call, which is up.

@@ -16,7 +16,8 @@ use control_message::Message;
 use end_model::{Call, EndSilent, EndTold, Move, Out, Role};
 use send_window::Letters;
 use tunnel_calls::TunnelCalls;
-use tunnel_rules::{call_row, is_up};
+use tunnel_rules::call_row;
+use tunnel_timers::is_up;
 use wire_base::{Cause, NoMemory, Why};
 
 /// The result code of a CDN for a call whose carrier was lost (RFC 2661 section 4.4.2).

@@ -7,7 +7,8 @@ ghost use Rattle.end_model.specs.Frames.{sends_frame, counts, carried, carries};
 use crate::turn::Turn;
 use end_model::{Call, Counted, FrameSent, Move, Origin, Out};
 use l2tp_header::write_data;
-use tunnel_rules::{counted, is_passing, is_up, number_of};
+use tunnel_rules::{counted, is_passing, number_of};
+use tunnel_timers::is_up;
 use wire_base::{Bytes, NoMemory, Why};
 
 /// How many bytes a PPP frame has at least and at most, with its protocol field.

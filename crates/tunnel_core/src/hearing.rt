@@ -28,7 +28,8 @@ use send_window::Letters;
 use session_looks::header_why;
 use tunnel_calls::TunnelCalls;
 use tunnel_fsm::{TunnelAction, TunnelEvent, TunnelState, advance};
-use tunnel_rules::{is_closed, may_take, same_state};
+use tunnel_rules::{may_take, same_state};
+use tunnel_timers::is_closed;
 use wire_base::{NoMemory, Why};
 
 /// Takes the SCCRP, and asks for each call that waits for the tunnel.

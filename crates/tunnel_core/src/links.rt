@@ -21,7 +21,8 @@ use send_window::Letters;
 use session_looks::CellChange;
 use std::alloc::Global;
 use std::marker::Model;
-use tunnel_rules::{advanced, call_row, copy_call, first_number, is_up, number_after};
+use tunnel_rules::{advanced, call_row, copy_call, first_number, number_after};
+use tunnel_timers::is_up;
 use wire_base::{Bytes, Cause, NoMemory, Why};
 
 /// What stands before an LCP packet in a PPP frame: the number of its protocol (RFC 1661 section 2).

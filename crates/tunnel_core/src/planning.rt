@@ -5,6 +5,7 @@ ghost use Rattle.end_model.specs.Openings.{fresh};
 ghost use Rattle.end_model.specs.Tunnels.{turn_of};
 ghost use Rattle.end_model.specs.Turn.{with_turn};
 ghost use Rattle.end_model.specs.Events.{turns, with_calls, tunnel_after};
+ghost use Rattle.tunnel_timers.specs.Due.{IsNoLater, tunnel_due};
 ghost use Rattle.tunnel_core.specs.Cores.{tunnel_of, made_of, AllHaveRoom, HasRoomFor, IsTurn};
 
 use crate::env::Env;
@@ -18,6 +19,7 @@ use std::alloc::Global;
 use std::marker::Model;
 use tunnel_calls::TunnelCalls;
 use tunnel_fsm::TunnelState;
+use tunnel_timers::channel_due;
 use wire_base::{NoMemory, Sequence};
 
 /// What counts as the peer's receive window, in letters, as long as it isn't known (RFC 2661 section 4.4.3).
@@ -140,6 +142,21 @@ impl TunnelCore {
         ensures { result.now ≡ self.now.calls }
     {
         self.calls.table()
+    }
+
+    /// A moment before which a tick does nothing for the tunnel, in milliseconds.
+    pub fn due(&self) -> u64
+        ensures { IsNoLater result (tunnel_due (tunnel_of self.now)) }
+    {
+        channel_due(&self.control).min(self.calls.due())
+    }
+
+    /// Looks at all calls where something may be due for one at this moment, so that it is known again when something is. It leaves
+    /// what the tunnel stands for.
+    pub fn look_again(&mut self, moment: u64)
+        ensures { self.new ≡ self.old }
+    {
+        self.calls.look_again(moment);
     }
 
     /// Says what a step on an event will change, makes all room for it, and writes what it gives into `env`. What the

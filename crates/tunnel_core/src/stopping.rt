@@ -14,7 +14,7 @@ use message_reading::Reason;
 use send_window::Letters;
 use tunnel_calls::TunnelCalls;
 use tunnel_fsm::{TunnelAction, TunnelEvent, TunnelState, advance};
-use tunnel_rules::is_open;
+use tunnel_timers::is_open;
 use wire_base::{Cause, NoMemory, Why};
 
 /// The result code of a StopCCN that clears a control connection for no fault (RFC 2661 section 4.4.2).

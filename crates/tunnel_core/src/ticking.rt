@@ -2,6 +2,7 @@
 
 ghost use Rattle.std.specs.Prelude.{◌≡◌, OnOk, IsTrue};
 ghost use Rattle.std.specs.Option.{option_copied};
+ghost use Rattle.id_table.specs.Ids.{ids_of};
 ghost use Rattle.end_model.specs.Channels.{has_room};
 ghost use Rattle.end_model.specs.Ticking.{clears, greeted, greets, limits_at, limits_all, goes_quietly, ticks};
 
@@ -11,10 +12,12 @@ use crate::turn::Turn;
 use call_fsm::CallEvent;
 use control_channel::Tick;
 use control_message::Message;
+use due_laws::early_ticks_do_nothing;
 use end_model::{Call, Greeted, Move, Role};
 use send_window::Letters;
 use tunnel_calls::TunnelCalls;
-use tunnel_rules::{PATIENCE, call_row, is_at_its_end, is_open, is_over, is_quiet, is_set_up};
+use tunnel_rules::call_row;
+use tunnel_timers::{PATIENCE, is_at_its_end, is_open, is_over, is_quiet, is_set_up};
 use wire_base::{Cause, NoMemory};
 
 /// The result code of a CDN for a call that took too long to be set up (RFC 2661 section 4.4.2).
@@ -101,6 +104,23 @@ fn limit_all(
     Ok(())
 }
 
+/// What is due for the calls. They are looked at only where something may be.
+fn limit_due(
+    turn: &mut Turn,
+    role: Role,
+    letters: &Letters,
+    calls: &TunnelCalls,
+) -> Result<(), NoMemory>
+    ensures { OnOk result (turn.new ≡ limits_all role letters.now.letters (ids_of calls.now.entries) calls.now.entries turn.old) }
+{
+    early_ticks_do_nothing();
+    if turn.moment < calls.due() {
+        return Ok(());
+    }
+    let sessions = calls.ids(turn.alloc)?;
+    limit_all(turn, role, letters, sessions.as_slice(), calls)
+}
+
 /// What is due in a tunnel whose channel hasn't failed.
 #[tactic(auto, unfolding(end_model::specs::Ticking::goes_quietly))]
 fn go_quietly(
@@ -111,9 +131,8 @@ fn go_quietly(
 ) -> Result<(), NoMemory>
     ensures { OnOk result (turn.new ≡ goes_quietly role letters.now.letters calls.now.entries turn.old) }
 {
-    let sessions = calls.ids(turn.alloc)?;
     greet(turn, letters)?;
-    limit_all(turn, role, letters, sessions.as_slice(), calls)
+    limit_due(turn, role, letters, calls)
 }
 
 /// Time has passed. Each part prints and sends its own before the next.

@@ -3,7 +3,7 @@
 ghost use Rattle.std.specs.Prelude.{◌≡◌, ◌<◌, ◌≤◌, if◌then◌else◌, length, None, Err, IfSome, IfOk};
 ghost use Rattle.wire_base.specs.declared.cause.Cause.TheVariants as causes;
 ghost use Rattle.control_message.specs.Pairs.{IsWritten, hidden_of};
-ghost use Rattle.end_model.specs.Calls.{call_row, rung, advanced, idle_call, asked_for, is_request, is_reply, is_connection, is_up, is_set_up, is_clean_up, first_number, number_of, number_after, counted};
+ghost use Rattle.end_model.specs.Calls.{call_row, rung, advanced, idle_call, asked_for, is_request, is_reply, is_connection, is_clean_up, first_number, number_of, number_after, counted};
 ghost use Rattle.end_model.specs.Reasons.{reason};
 ghost use Rattle.end_model.specs.Asking.{left_of};
 ghost use Rattle.end_model.specs.Messages.{request_of};
@@ -191,21 +191,6 @@ pub fn is_clean_up(action: CallAction) -> bool
     ensures { result ≡ is_clean_up action }
 {
     matches!(action, CallAction::CleanUp)
-}
-
-pub fn is_up(state: CallState) -> bool
-    ensures { result ≡ is_up state }
-{
-    matches!(state, CallState::Established)
-}
-
-pub fn is_set_up(state: CallState) -> bool
-    ensures { result ≡ is_set_up state }
-{
-    matches!(
-        state,
-        CallState::WaitTunnel | CallState::WaitReply | CallState::WaitConnect
-    )
 }
 
 /// Whether frames of the network pass in a call that is established: at a LAC all of them, at an LNS once LCP was open.

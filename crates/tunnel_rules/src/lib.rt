@@ -1,4 +1,4 @@
-//! What a tunnel's step goes by, as values: the rows of its calls' tables, times and room, and what an end says and hides.
+//! What a tunnel's step goes by, as values: the rows of its calls' tables, room, and what an end says and hides.
 #![tactic(auto)]
 
 mod calls;
@@ -8,11 +8,8 @@ mod tunnels;
 
 pub use calls::{
     advanced, asked_for, call_row, copy_call, counted, first_number, is_clean_up, is_connection,
-    is_passing, is_reply, is_request, is_set_up, is_up, number_after, number_of, request_of, rung,
-    session_left,
+    is_passing, is_reply, is_request, number_after, number_of, request_of, rung, session_left,
 };
 pub use hiding::{copy_pairs, hidden_pairs};
 pub use openings::{challenge_by, opening_of};
-pub use tunnels::{
-    PATIENCE, is_at_its_end, is_closed, is_open, is_over, is_quiet, may_take, same_state,
-};
+pub use tunnels::{may_take, same_state};

@@ -1,5 +1,5 @@
 //! The tunnels of an end, by local id, which are also found by their peer with the id that it assigned, and by their peer with
-//! their state.
+//! their state; and those for which a tick does something are found without a look at the others.
 //!
 //! A step of a tunnel is planned, and room is made for all that it changes, in the indexes too; what is then made takes no
 //! memory.

@@ -1,6 +1,6 @@
 //! A table of tunnels with its indexes.
 
-ghost use Rattle.std.specs.Prelude.{ℕ, ◌≡◌, ◌≢◌, [], List, find, length, is_some, option_map, IfOk, OnOk, IsSome};
+ghost use Rattle.std.specs.Prelude.{ℕ, ◌≡◌, ◌≢◌, ◌==◌, ◌&&◌, [], List, find, length, is_some, option_map, IfOk, OnOk, IsSome, IsTrue};
 ghost use Rattle.std.specs.Option.{option_copied};
 ghost use Rattle.std.specs.List.Sorted.{IsStrictlySortedBy};
 ghost use Rattle.std.specs.Ordering.{nat_cmp};
@@ -9,7 +9,11 @@ ghost use Rattle.id_table.specs.Tables.{HasRoom};
 ghost use Rattle.end_model.specs.Tunnels.{Tunnel};
 ghost use Rattle.end_model.specs.Turn.{with_turn};
 ghost use Rattle.end_model.specs.End.{tunnels_after, is_known, known_as, is_in, least_in};
+ghost use Rattle.id_table.specs.Order.{Ascends};
+ghost use Rattle.std.specs.List.{AllByRecursion};
+ghost use Rattle.tunnel_timers.specs.Due.{IsEarly, IsNoLater, LeavesOut, due_at, earliest_at, tunnel_due};
 ghost use Rattle.tunnel_core.specs.Cores.{tunnel_of, made_of, IsTurn, HasRoomFor};
+ghost use Rattle.tunnel_fsm.specs.Rows.{state_number};
 ghost use Rattle.tunnel_table.specs.Labels.{control_in, AreKept};
 ghost use Rattle.tunnel_table.specs.Plans.{turn_at, IsPlanned, IsGiven, HasPlace, after_plan};
 ghost use Rattle.tunnel_table.specs.Tunnels.{tunnels_of};
@@ -28,6 +32,9 @@ use wire_base::{NoMemory, Sequence};
 pub struct TunnelTable {
     table: Table<TunnelCore>,
     indexes: Indexes,
+    /// A moment before which a tick does nothing for any of them, in milliseconds. As tunnels change it only falls, until they are
+    /// looked at again.
+    due: u64,
 }
 
 impl Model for TunnelTable {
@@ -35,12 +42,13 @@ impl Model for TunnelTable {
     ghost use Rattle.tunnel_core.specs.Cores.{Core};
     ghost use Rattle.tunnel_table.specs.Labels.{AreKept};
     ghost use Rattle.tunnel_table.specs.Tunnels.{tunnels_of};
+    ghost use Rattle.tunnel_timers.specs.Due.{IsNoLater, tunnels_due};
 
     ghost Value = { Kept Core };
 
     ghost view = { λ t. t.table };
 
-    ghost invariant = { λ t. AreKept t.indexes.remotes t.indexes.states (tunnels_of t.table.entries) };
+    ghost invariant = { λ t. AreKept t.indexes.remotes t.indexes.states (tunnels_of t.table.entries) × IsNoLater t.due (tunnels_due (tunnels_of t.table.entries)) };
 }
 
 /// The tunnel with this id, apart from its calls.
@@ -61,6 +69,13 @@ fn make_keys(indexes: &mut Indexes, id: u32, planned: &Planned) -> Result<(), No
     indexes.make_keys(id, planned.control())
 }
 
+/// Whether a tunnel is found as before, so that it keeps its keys.
+fn keeps_keys(before: &Control, after: &Control) -> bool
+    ensures { result ≡ (before.now.remote == after.now.remote && state_number before.now.state == state_number after.now.state) }
+{
+    before.remote == after.remote && same_state(before.state, after.state)
+}
+
 /// Plans a step of a tunnel, and makes room for what it changes, in the indexes too. What the tunnel stands for is as before.
 fn plan_for(
     core: &mut TunnelCore,
@@ -78,7 +93,9 @@ fn plan_for(
     ensures kept { (ts : List (ℕ × Tunnel)) → AreKept indexes.old.remotes indexes.old.states ts → AreKept indexes.new.remotes indexes.new.states ts }
 {
     let planned = core.plan(role, config, env, event)?;
-    make_keys(indexes, id, &planned)?;
+    if !keeps_keys(core.control(), planned.control()) {
+        make_keys(indexes, id, &planned)?;
+    }
     Ok(planned)
 }
 
@@ -90,6 +107,7 @@ impl TunnelTable {
         TunnelTable {
             table: Table::new(alloc),
             indexes: Indexes::new(alloc),
+            due: u64::MAX,
         }
     }
 
@@ -120,6 +138,36 @@ impl TunnelTable {
         ensures ascend { IfOk result (λ ids. IsStrictlySortedBy nat_cmp ids) }
     {
         self.table.ids(alloc)
+    }
+
+    /// The local ids of the tunnels for which a tick may do something at a moment, in order: each that is left out isn't due. Where
+    /// none is due it takes no memory.
+    pub fn ids_due(&self, alloc: Global, moment: u64) -> Result<Sequence<u32>, NoMemory>
+        ensures order { Ascends (tunnels_of self.now.entries) }
+        ensures others { IfOk result (λ ids. LeavesOut (IsEarly (tunnels_of self.now.entries) moment) (ids_of (tunnels_of self.now.entries)) ids) }
+        ensures ascend { IfOk result (λ ids. IsStrictlySortedBy nat_cmp ids) }
+        ensures there { IfOk result (λ ids. AllByRecursion (λ i. IsSome (at (tunnels_of self.now.entries) i)) ids) }
+    {
+        if moment < self.due {
+            return Ok(Sequence::new(alloc));
+        }
+        let ids = self.table.ids(alloc)?;
+        those_due(&self.table, alloc, ids.as_slice(), moment)
+    }
+
+    /// Looks again at the tunnels, where a tick may do something at this moment, so that it is known when it next does. What the
+    /// tunnels stand for is as before. Where memory is wanting, they are looked at with the next tick.
+    pub fn look_again(&mut self, alloc: Global, moment: u64)
+        ensures { tunnels_of self.new.entries ≡ tunnels_of self.old.entries }
+    {
+        if moment < self.due {
+            return;
+        }
+        let Ok(ids) = self.table.ids(alloc) else {
+            return;
+        };
+        look_at_all(&mut self.table, ids.as_slice(), moment);
+        self.due = earliest_due(&self.table, ids.as_slice());
     }
 
     /// Plans a step of the tunnel with this id, and makes room for all that it changes. What the tunnels stand for is as before.
@@ -161,6 +209,7 @@ impl TunnelTable {
             unreachable!()
         };
         core.apply(planned);
+        self.due = self.due.min(core.due());
     }
 
     /// Makes room for a tunnel that is new, for which this is planned. Where memory is wanting, the tunnels are as before.
@@ -188,6 +237,7 @@ impl TunnelTable {
         self.indexes.list(id, before, planned.control());
         let mut core = core;
         core.apply(planned);
+        self.due = self.due.min(core.due());
         self.table.fill(id, core);
     }
 
@@ -250,4 +300,75 @@ fn first_in(table: &Table<TunnelCore>, state: TunnelState, peer: u32, ids: &[u32
         }
     }
     None
+}
+
+/// Whether a tick does nothing for the tunnel with this id, as far as it is known.
+#[tactic(auto, using(crate::specs::Tunnels::at_tunnels))]
+fn is_early(table: &Table<TunnelCore>, id: u32, moment: u64) -> bool
+    ensures { IsTrue result → IsEarly (tunnels_of table.now.entries) moment id }
+{
+    match table.get(id) {
+        Some(core) => moment < core.due(),
+        None => true,
+    }
+}
+
+/// Those of these tunnels for which a tick may do something.
+fn those_due(
+    table: &Table<TunnelCore>,
+    alloc: Global,
+    ids: &[u32],
+    moment: u64,
+) -> Result<Sequence<u32>, NoMemory>
+    ensures { IfOk result (λ due. LeavesOut (IsEarly (tunnels_of table.now.entries) moment) ids.now due) }
+{
+    let mut due = Sequence::new(alloc);
+    for id in ids {
+        if !is_early(table, *id, moment) {
+            due.push(*id)?;
+        }
+    }
+    Ok(due)
+}
+
+/// When a tick next does something for the tunnel with this id, or earlier.
+#[tactic(auto, using(crate::specs::Tunnels::at_tunnels))]
+fn due_at(table: &Table<TunnelCore>, id: u32) -> u64
+    ensures { IsNoLater result (due_at (λ t. tunnel_due t.1) id (at (tunnels_of table.now.entries) id)) }
+{
+    match table.get(id) {
+        Some(core) => core.due(),
+        None => u64::MAX,
+    }
+}
+
+/// When a tick next does something for one of these tunnels, or earlier.
+fn earliest_due(table: &Table<TunnelCore>, ids: &[u32]) -> u64
+    ensures { IsNoLater result (earliest_at (λ t. tunnel_due t.1) (tunnels_of table.now.entries) ids.now) }
+{
+    let mut due = u64::MAX;
+    for id in ids {
+        due = due.min(due_at(table, *id));
+    }
+    due
+}
+
+/// Looks at the calls of a tunnel again, where something may be due for one of them.
+fn look_at(table: &mut Table<TunnelCore>, id: u32, moment: u64)
+    requires { Ascends (tunnels_of table.old.entries) }
+    ensures { tunnels_of table.new.entries ≡ tunnels_of table.old.entries }
+{
+    if let Some(core) = table.get_mut(id) {
+        core.look_again(moment);
+    }
+}
+
+/// Looks at the calls of these tunnels again.
+fn look_at_all(table: &mut Table<TunnelCore>, ids: &[u32], moment: u64)
+    requires { Ascends (tunnels_of table.old.entries) }
+    ensures { tunnels_of table.new.entries ≡ tunnels_of table.old.entries }
+{
+    for id in ids {
+        look_at(table, *id, moment);
+    }
 }

@@ -11,7 +11,7 @@ loop-id-init c = none_planned c.args.role c.args.config.now c.args.tunnels.now.e
 
 pub plan_at-requires : goal.plan_at-requires
 plan_at-requires c =
-    there c.args.role c.args.config.now c.args.tunnels.now.entries c.args.env.now c.as_slice-id-items.result.now (subst (λ is. IsStrictlySortedBy nat_cmp is) (sym c.as_slice-id-items.ensures) c.in_ok-ids.ensures.ascend) c.loop-id.id-index c.loop-id-test.true c.loop-id.tunnels c.loop-id.tunnels c.loop-id.env c.loop-id.env c.loop-id.plans c.loop-id.invariant (c.as_slice-id-items.ensures ∙ c.in_ok-ids.ensures.all)
+    there c.args.role c.args.config.now c.args.tunnels.now.entries c.args.env.now c.args.ids.now c.requires.ascend c.loop-id.id-index c.loop-id-test.true c.loop-id.tunnels c.loop-id.tunnels c.loop-id.env c.loop-id.env c.loop-id.plans c.loop-id.invariant c.requires.there
 
 pub returns-in_err-planned-clause-same : goal.returns-in_err-planned-clause-same
 returns-in_err-planned-clause-same c = c.in_err-planned.ensures.same ∙ c.loop-id.invariant.same
@@ -21,25 +21,22 @@ returns-in_err-push-clause-same c = c.in_ok-planned.ensures.same ∙ c.loop-id.i
 
 pub loop-id-preserved : goal.loop-id-preserved
 loop-id-preserved c =
-    next_planned c.args.role c.args.config.now c.args.tunnels.now.entries c.args.env.now c.as_slice-id-items.result.now (subst (λ is. IsStrictlySortedBy nat_cmp is) (sym c.as_slice-id-items.ensures) c.in_ok-ids.ensures.ascend) c.loop-id.id-index c.loop-id-test.true c.loop-id.tunnels c.plan_at.new.tunnels c.loop-id.env c.plan_at.new.env c.loop-id.plans c.loop-id.invariant c.in_ok-planned.planned c.in_ok-planned.ensures.same c.in_ok-planned.ensures.others c.in_ok-planned.ensures.planned c.in_ok-planned.ensures.place c.in_ok-planned.ensures.given c.push.new.self c.in_ok-push.ensures.ok
+    next_planned c.args.role c.args.config.now c.args.tunnels.now.entries c.args.env.now c.args.ids.now c.requires.ascend c.loop-id.id-index c.loop-id-test.true c.loop-id.tunnels c.plan_at.new.tunnels c.loop-id.env c.plan_at.new.env c.loop-id.plans c.loop-id.invariant c.in_ok-planned.planned c.in_ok-planned.ensures.same c.in_ok-planned.ensures.others c.in_ok-planned.ensures.planned c.in_ok-planned.ensures.place c.in_ok-planned.ensures.given c.push.new.self c.in_ok-push.ensures.ok
 
 pub returns-clause-same : goal.returns-clause-same
 returns-clause-same c = c.loop-id.invariant.same
 
 pub returns-clause-planned : goal.returns-clause-planned
 returns-clause-planned c =
-    let whole = take_all c.loop-id.id-index c.as_slice-id-items.result.now c.loop-id-test.false ∙ c.as_slice-id-items.ensures ∙ c.in_ok-ids.ensures.all in
-    subst (λ is. ArePlanned c.loop-id.plans (ticks_at c.args.role c.args.config.now c.args.tunnels.now.entries c.args.env.now is)) whole c.loop-id.invariant.planned
+    subst (λ is. ArePlanned c.loop-id.plans (ticks_at c.args.role c.args.config.now c.args.tunnels.now.entries c.args.env.now is)) (take_all c.loop-id.id-index c.args.ids.now c.loop-id-test.false) c.loop-id.invariant.planned
 
 pub returns-clause-ascend : goal.returns-clause-ascend
 returns-clause-ascend c =
-    let whole = take_all c.loop-id.id-index c.as_slice-id-items.result.now c.loop-id-test.false ∙ c.as_slice-id-items.ensures in
-    subst (λ is. IsStrictlySortedBy nat_cmp is) (sym (c.loop-id.invariant.ids ∙ whole)) c.in_ok-ids.ensures.ascend
+    subst (λ is. IsStrictlySortedBy nat_cmp is) (sym (c.loop-id.invariant.ids ∙ take_all c.loop-id.id-index c.args.ids.now c.loop-id-test.false)) c.requires.ascend
 
 pub returns-clause-places : goal.returns-clause-places
 returns-clause-places c = c.loop-id.invariant.places
 
 pub returns-clause-given : goal.returns-clause-given
 returns-clause-given c =
-    let whole = take_all c.loop-id.id-index c.as_slice-id-items.result.now c.loop-id-test.false ∙ c.as_slice-id-items.ensures ∙ c.in_ok-ids.ensures.all in
-    c.loop-id.invariant.given ∙ ap (λ is. with_ticks (ticks_at c.args.role c.args.config.now c.args.tunnels.now.entries c.args.env.now is) c.args.env.now) whole
+    c.loop-id.invariant.given ∙ ap (λ is. with_ticks (ticks_at c.args.role c.args.config.now c.args.tunnels.now.entries c.args.env.now is) c.args.env.now) (take_all c.loop-id.id-index c.args.ids.now c.loop-id-test.false)

@@ -4,6 +4,7 @@ use Rattle.end_model.specs.declared.tunnel.Call.{Call}
 use Rattle.end_model.specs.Owing.{owed_at, owed-most, owed-put}
 use Rattle.id_index.specs.Indexes.{IsRelabelled}
 use Rattle.id_index.specs.Firsts.{within_put}
+use Rattle.tunnel_timers.specs.Bounds.{calls_put}
 use Rattle.tunnel_calls.proofs.Listing.{listed_put}
 use Rattle.tunnel_calls.proofs.TunnelCalls.fill.Goals as goal
 
@@ -37,4 +38,5 @@ invariant_of-self c =
       omega arith,
       within_put c.self.inside.table.entries c.args.session c.args.call c.ranges.session.fits c.self.invariant.2,
       listed_put c.self.inside.remotes c.relabel.new.self c.self.inside.table.entries c.args.session c.args.call relabelled c.self.invariant.3,
+      calls_put c.self.inside.due c.call_due.result c.min-self-inside.result c.self.inside.table.entries c.args.session c.args.call c.min-self-inside.ensures c.call_due.ensures c.self.invariant.4,
     )

@@ -7,6 +7,7 @@ invariant_of-self c = (
   c.self.invariant.1,
   c.self.invariant.2,
   c.make_key.ensures (remotes_of c.self.inside.table.entries) c.self.invariant.3,
+  c.self.invariant.4,
 )
 
 pub invariant_of-self-2 : goal.invariant_of-self-2
@@ -16,4 +17,5 @@ invariant_of-self-2 c =
       c.self.invariant.1,
       c.self.invariant.2,
       c.make_key.ensures (remotes_of c.self.inside.table.entries) c.self.invariant.3,
+      c.self.invariant.4,
     )

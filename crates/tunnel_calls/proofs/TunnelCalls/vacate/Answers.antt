@@ -4,6 +4,7 @@ use Rattle.end_model.specs.declared.tunnel.Call.{Call}
 use Rattle.end_model.specs.Owing.{owed_at, owed-without}
 use Rattle.id_index.specs.Indexes.{IsRelabelled}
 use Rattle.id_index.specs.Firsts.{within_without}
+use Rattle.tunnel_timers.specs.Bounds.{calls_without}
 use Rattle.tunnel_calls.proofs.Listing.{listed_without}
 use Rattle.tunnel_calls.proofs.TunnelCalls.vacate.Goals as goal
 
@@ -26,4 +27,5 @@ invariant_of-self c =
       omega arith,
       within_without c.self.inside.table.entries c.args.session c.ranges.session.fits c.self.invariant.2,
       listed_without c.self.inside.remotes c.relabel.new.self c.self.inside.table.entries c.args.session c.self.invariant.0 relabelled c.self.invariant.3,
+      calls_without c.self.inside.due c.self.inside.table.entries c.args.session c.self.invariant.4,
     )

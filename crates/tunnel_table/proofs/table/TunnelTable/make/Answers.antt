@@ -3,18 +3,23 @@ use Rattle.id_table.specs.Ids.{at, without}
 use Rattle.id_table.specs.Order.{at_without_other}
 use Rattle.id_table.specs.Tables.{Kept}
 use Rattle.end_model.specs.Tunnels.{Tunnel}
+use Rattle.tunnel_timers.specs.Due.{IsNoLater, tunnels_due}
+use Rattle.tunnel_timers.specs.Bounds.{tunnels_without}
 use Rattle.tunnel_core.specs.Cores.{Core, tunnel_of}
 use Rattle.tunnel_table.specs.Labels.{AreKept}
 use Rattle.tunnel_table.specs.Plans.{after_plan}
 use Rattle.tunnel_table.specs.Tunnels.{tunnels_of, without_tunnels}
+use Rattle.tunnel_table.proofs.Waiting.{made_due}
 use Rattle.tunnel_table.proofs.Made.{put_changed, others_same, kept_made, cleared_made}
 use Rattle.tunnel_table.proofs.table.TunnelTable.make.Goals as goal
 
 pub invariant_of-self : goal.invariant_of-self
 invariant_of-self c =
     let es = c.self.inside.table.entries in
-    subst (λ ts. AreKept c.unlist.new.self.remotes c.unlist.new.self.states ts) (sym (ap tunnels_of c.remove.ensures.removed ∙ without_tunnels es c.args.id))
-    (c.unlist.ensures (tunnels_of es) c.self.invariant (sym c.control_at-before.ensures))
+    let same = ap tunnels_of c.remove.ensures.removed ∙ without_tunnels es c.args.id in (
+      subst (λ ts. AreKept c.unlist.new.self.remotes c.unlist.new.self.states ts) (sym same) (c.unlist.ensures (tunnels_of es) c.self.invariant.0 (sym c.control_at-before.ensures)),
+      subst (λ ts. IsNoLater c.self.inside.due (tunnels_due ts)) (sym same) (tunnels_without c.self.inside.due (tunnels_of es) c.args.id c.self.invariant.1),
+    )
 
 pub returns-then-clears-clause-made : goal.returns-then-clears-clause-made
 returns-then-clears-clause-made c =
@@ -29,9 +34,12 @@ returns-then-clears-clause-others c q apart =
 pub invariant_of-self-2 : goal.invariant_of-self-2
 invariant_of-self-2 c =
     let es = c.self.inside.table.entries in
-    subst (λ ts. AreKept c.list.new.self.remotes c.list.new.self.states ts) (sym (put_changed es _ c.args.id c.apply.new.self refl))
-    (c.list.ensures (tunnels_of es) (tunnel_of c.apply.new.self) c.self.invariant (sym c.control_at-before.ensures)
-    (ap (λ (t : Tunnel). t.control) c.apply.ensures ∙ sym c.control.ensures))
+    let same = put_changed es _ c.args.id c.apply.new.self refl in (
+      subst (λ ts. AreKept c.list.new.self.remotes c.list.new.self.states ts) (sym same)
+          (c.list.ensures (tunnels_of es) (tunnel_of c.apply.new.self) c.self.invariant.0 (sym c.control_at-before.ensures)
+          (ap (λ (t : Tunnel). t.control) c.apply.ensures ∙ sym c.control.ensures)),
+      made_due c.self.inside.due c.due.result c.min-self-inside.result es _ c.args.id c.apply.new.self same c.min-self-inside.ensures c.due.ensures c.self.invariant.1,
+    )
 
 pub returns-clause-made : goal.returns-clause-made
 returns-clause-made c =

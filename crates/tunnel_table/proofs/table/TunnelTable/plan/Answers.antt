@@ -4,6 +4,7 @@ use Rattle.std.proofs.lemmas.Result.{IfOk-weaker, on_ok_weaker}
 use Rattle.id_table.specs.Ids.{at}
 use Rattle.id_table.specs.Order.{at_new}
 use Rattle.id_table.specs.Tables.{Kept}
+use Rattle.tunnel_timers.specs.Due.{IsNoLater, tunnels_due}
 use Rattle.tunnel_core.specs.Cores.{Core, tunnel_of}
 use Rattle.tunnel_table.specs.Labels.{AreKept}
 use Rattle.tunnel_table.specs.Plans.{IsPlanned, IsGiven}
@@ -14,13 +15,14 @@ use Rattle.tunnel_table.proofs.table.TunnelTable.plan.Goals as goal
 pub invariant_of-self : goal.invariant_of-self
 invariant_of-self c =
     let es = c.self.inside.table.entries in
-    let same = put_same es _ c.args.id c.plan_for.new.core refl c.self.invariant.ascend c.in-Some.core.now (sym c.in-Some.ensures.value) c.plan_for.ensures.same in
-    subst (λ ts. AreKept c.plan_for.new.indexes.remotes c.plan_for.new.indexes.states ts) (sym same)
-    (c.plan_for.ensures.kept (tunnels_of es) c.self.invariant)
+    let same = put_same es _ c.args.id c.plan_for.new.core refl c.self.invariant.0.ascend c.in-Some.core.now (sym c.in-Some.ensures.value) c.plan_for.ensures.same in (
+      subst (λ ts. AreKept c.plan_for.new.indexes.remotes c.plan_for.new.indexes.states ts) (sym same) (c.plan_for.ensures.kept (tunnels_of es) c.self.invariant.0),
+      subst (λ ts. IsNoLater c.self.inside.due (tunnels_due ts)) (sym same) c.self.invariant.1,
+    )
 
 pub returns-clause-same : goal.returns-clause-same
 returns-clause-same c =
-    put_same c.self.inside.table.entries _ c.args.id c.plan_for.new.core refl c.self.invariant.ascend c.in-Some.core.now (sym c.in-Some.ensures.value) c.plan_for.ensures.same
+    put_same c.self.inside.table.entries _ c.args.id c.plan_for.new.core refl c.self.invariant.0.ascend c.in-Some.core.now (sym c.in-Some.ensures.value) c.plan_for.ensures.same
     ∙ ap (λ (k : Kept Core). tunnels_of k.entries) c.self.view_is
 
 pub returns-clause-others : goal.returns-clause-others
