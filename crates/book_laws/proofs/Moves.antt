@@ -24,6 +24,7 @@ use Rattle.end_model.specs.Messages.{flags_of}
 use Rattle.end_model.specs.Moments.{is_open}
 use Rattle.end_model.specs.Tunnels.{Tunnel}
 use Rattle.lcp_end.specs.Laws.{after as lcp_after}
+use Rattle.step_laws.specs.Callers.{wanted_by_lac}
 use Rattle.step_laws.specs.Links.{begun_link}
 use Rattle.step_laws.specs.Moves.{Does, begun}
 use Rattle.book_laws.specs.Books.{Mirrors, AreDrawn, HasNone, CallFits, TablesFit, booked_call}
@@ -133,10 +134,11 @@ module _ (e x : End) (k : Kept) (fit : TablesFit e) (drawn : AreDrawn e k) (book
       let ids = ap (λ (y : End). y.session_ids) h.after in
       let grows = draws_session e x m.session h.drawn (ap (λ (y : End). y.role) h.after) (ap (λ (y : End). y.tunnel_ids) h.after) ids in
       let new = rung e.role m.subscriber moment in
-      let down : is_up new.state ≡ false = ap is_up (rung_state e.role m.subscriber moment h.role) in
+      let lac = wanted_by_lac e ev h.tunnel.control.peer h.wants in
+      let down : is_up new.state ≡ false = ap is_up (rung_state e.role m.subscriber moment lac) in
       call_born e x k fit drawn book m.tunnel h.tunnel h.tunnel.control h.tunnel.letters m.session new h.there grows (ap (λ (y : End). y.tunnels) h.after) (same_control h.tunnel.control)
       (draw_is e.session_ids m.session h.drawn).0 (not_all (length h.tunnel.calls) h.few)
-      (call_first e x h.tunnel m.session new grows fit h.drawn ids (rung_none e.role m.subscriber moment h.role) down) down
+      (call_first e x h.tunnel m.session new grows fit h.drawn ids (rung_none e.role m.subscriber moment lac) down) down
   does_go moment ev (move.Requested m) h =
       let grows = same_spaces e x (ap (λ (y : End). y.role) h.after) (ap (λ (y : End). y.tunnel_ids) h.after) (ap (λ (y : End). y.session_ids) h.after) in
       let new = advanced e.role call_event.TunnelOpen moment h.call in

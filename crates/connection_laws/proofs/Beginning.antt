@@ -19,15 +19,21 @@ use Rattle.end_model.specs.Channels.{letter_of}
 use Rattle.end_model.specs.Messages.{opening_of}
 use Rattle.end_model.specs.End.{End}
 use Rattle.world_model.specs.World.{Sender, Deed, config_of}
+use Rattle.step_laws.specs.Callers.{WantsTunnel, LacWants}
 use Rattle.step_laws.specs.Letters.{Letter}
 use Rattle.step_laws.specs.Moves.{Asks, with_tunnel, with_letter, new_tunnel, begun}
 use Rattle.connection_laws.specs.Accounts.{Part, Unmade, Opener, Acceptor, Account, no_account, gives}
-use Rattle.connection_laws.specs.Facts.{Accounts, IsMade, IsPart, AccountOk, LiveOk, Comes, Within}
+use Rattle.connection_laws.specs.Facts.{Accounts, IsMade, IsPart, AccountOk, LiveOk, EndOk, Comes, Within}
 use Rattle.connection_laws.proofs.Keeps.{IsDeed, after, IsMoved}
 use Rattle.connection_laws.proofs.Puts.{IsOnly, NearAt, ComesNear}
 use Rattle.connection_laws.proofs.Later.{after_move, only_after}
 use Rattle.connection_laws.proofs.Put.{puts_keep}
 use Rattle.connection_laws.proofs.Written.{asks_short, opening_written, same_opening, node_again, node_fits}
+
+-- the peer to which an end wants a tunnel is a node
+wanted_node : (accs : Accounts) (n : ℕ) (e : End) (ev : Event) (peer : ℕ) → EndOk accs n e → WantsTunnel e ev peer
+    → (m : ℕ) × (m < 256) × (peer ≡ address_of m)
+wanted_node accs n e ev peer ok (LacWants lac lns asks) = let node = ok.lns lac in (node.0, node.1, lns ∙ node.2)
 
 -- an id that wasn't drawn is that of no tunnel
 pub undrawn : (accs : Accounts) (n : ℕ) (e : End) (sender : Option Sender) (ev : Event) → Within accs n e sender ev → (i : ℕ) → i ≡ e.tunnel_ids.next
@@ -44,7 +50,7 @@ undrawn accs n e sender ev within i is = by (accs n i).part refl (within.account
 
 module _ (accs : Accounts) (n : ℕ) (e : End) (sender : Option Sender) (moment : ℕ) (ev : Event) (d : Deed) (within : Within accs n e sender ev) (m : Opened)
     (deed : IsDeed d n e.role sender (move.Opened m)) (next : m.tunnel ≡ e.tunnel_ids.next) (last : m.tunnel ≤ e.tunnel_ids.last)
-    (number : ℕ) (number_fits : number < 256) (lns : m.peer ≡ address_of number) (asks : Asks e.config.secret m.challenge) where
+    (number : ℕ) (number_fits : number < 256) (peer_is : m.peer ≡ address_of number) (asks : Asks e.config.secret m.challenge) where
   abbrev ms : Accounts
   ms = after accs d
 
@@ -120,7 +126,7 @@ module _ (accs : Accounts) (n : ℕ) (e : End) (sender : Option Sender) (moment 
   live : LiveOk ms n i new_account new
   live = record {
     local = refl;
-    peer = rw (lns, node_again number number_fits) refl;
+    peer = rw (peer_is, node_again number number_fits) refl;
     remote = refl;
     state = inl (refl, refl, refl, λ s c f. absurd (none-some c (sym (at-none s) ∙ f)));
     letters = ap (λ o. letter_of 0 (Sccrq o) ∷ []) (same_opening e.role e.config (config_of n 0 None false) m.challenge None m.tunnel within.end.number);
@@ -177,8 +183,8 @@ pub opened_keeps : (accs : Accounts) (n : ℕ) (e x : End) (sender : Option Send
 opened_keeps accs n e x sender moment ev m d h =
     let o = h.does in
     let drawn = draw_is e.tunnel_ids m.tunnel o.drawn in
-    let lns = h.within.end.lns o.role in
+    let node = wanted_node accs n e ev m.peer h.within.end o.wants in
     let t = with_letter 0 (Sccrq (opening_of e.role e.config m.challenge None m.tunnel)) (new_tunnel (begun m.tunnel m.peer 0 WaitCtlReply moment m.challenge)) in
     let same = o.after ∙ ap (λ s. record (with_tunnel e m.tunnel t) { tunnel_ids = s }) (next_is e.tunnel_ids m.tunnel o.drawn) in
     subst (λ y. Within (after accs d) n y sender ev) (sym same)
-    (begins accs n e sender moment ev d h.within m h.deed drawn.0 drawn.1 lns.0 lns.1 (o.peer ∙ lns.2) o.asks)
+    (begins accs n e sender moment ev d h.within m h.deed drawn.0 drawn.1 node.0 node.1 node.2 o.asks)

@@ -38,6 +38,7 @@ use Rattle.end_model.specs.Messages.{request_of}
 use Rattle.end_model.specs.Links.{with_link, link_after}
 use Rattle.end_model.specs.End.{End, new_place}
 use Rattle.world_model.specs.World.{Sender, Deed, config_of}
+use Rattle.step_laws.specs.Callers.{wanted_by_lac}
 use Rattle.step_laws.specs.Letters.{Letter, letters_of}
 use Rattle.lcp_end.specs.Laws.{after as lcp_after}
 use Rattle.step_laws.specs.Codes.{codes_fit}
@@ -374,7 +375,7 @@ added_keeps accs n e x sender moment ev m d h =
     (⊎_elim
     (λ (three : state_number t.control.state ≡ 3). inl three)
     (λ (one : state_number t.control.state ≡ 1). inr (
-      waits_put t.calls m.session call (rung_waits e.role m.subscriber moment o.role),
+      waits_put t.calls m.session call (rung_waits e.role m.subscriber moment (wanted_by_lac e ev t.control.peer o.wants)),
       (λ other none. absurd (other one)),
     ))
     o.goes))

@@ -49,13 +49,14 @@ use Rattle.end_model.specs.declared.tunnel.Control.{Control}
 use Rattle.end_names.specs.declared.role.Role.{Role}
 use Rattle.end_names.specs.declared.role.Role.TheVariants.{Lac, Lns}
 use Rattle.end_names.specs.Names.{node_of, host_name, calling_number}
-use Rattle.end_model.specs.Calls.{advanced, with_numbers, counted, rung, asked_for, is_up}
+use Rattle.end_model.specs.Calls.{advanced, with_numbers, counted, rung, asked_for}
 use Rattle.end_model.specs.Tunnels.{Tunnel}
 use Rattle.end_model.specs.Channels.{letter_of, letter_as, counts_given, counts_taken, learns_window}
 use Rattle.end_model.specs.Messages.{flags_of, opening_of, request_of, connection}
 use Rattle.end_model.specs.Links.{with_link, link_after}
 use Rattle.end_model.specs.End.{End, new_place}
 use Rattle.world_model.specs.World.{World, Node, with_birth, is_born, birth_of, moved}
+use Rattle.step_laws.specs.Callers.{wanted_by_lac}
 use Rattle.step_laws.specs.Moves.{heard_from, Rejects, Asks, Responds, with_tunnel, with_letter, new_tunnel, begun, Opens, Accepts, Connects, Confirms, Adds as AddsCall, Requests, Replies, ComesUpFirst, ComesUpSecond, Refuses, TellsEnd, HearsEnd, EndsSilently, Closes, ClosesBy, Clears, Greets, TakesPlain, Reads, LetsGo, Repeats, Negotiates, Counts, without_call, without_calls, Does}
 use Rattle.step_laws.specs.Links.{begun_link}
 use Rattle.lcp_end.specs.Laws.{after as lcp_after}
@@ -228,7 +229,7 @@ module _ (digits : (who : List ℕ) → length (calling_number who) ≡ 12) (n :
         most = here.end.most;
       }
 
-  opened_led : (moment : ℕ) (m : Opened) (y : End) → Opens x moment m y → Led v y
+  opened_led : (moment : ℕ) (m : Opened) (y : End) → Opens x moment ev m y → Led v y
   opened_led moment m y h =
       let d = draw_is x.tunnel_ids m.tunnel h.drawn in
       let first = here.end.first in
@@ -712,10 +713,7 @@ module _ (digits : (who : List ℕ) → length (calling_number who) ≡ 12) (n :
       refl refl refl refl
       (old_letters (is_born v n m.session) m.session (next_birth v) bears m.tunnel t h.there)
       (rw (rung_remote x.role m.subscriber moment) (omega arith)) (inl (rung_remote x.role m.subscriber moment))
-      (λ k. ⊎_elim
-      (λ a. absurd (not_lns x.role h.role a))
-      (λ (a : is_up (rung x.role m.subscriber moment).state ≡ true). absurd (true≢false (sym (rw h.role at a) ∙ rung_row m.subscriber moment)))
-      k)
+      (λ known. absurd (rung_row x.role m.subscriber moment (wanted_by_lac x ev h.tunnel.control.peer h.wants) known))
       (rung_link x.role m.subscriber moment))
 
   replied_led : (moment : ℕ) (m : Replied) (y : End) → Replies x moment ev m y → Led (with_birth v n m.session (birth_of v (node_of m.peer) m.remote)) y

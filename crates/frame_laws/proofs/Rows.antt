@@ -1,5 +1,5 @@
 -- What the rows of calls' tables tell of the end that they are for.
-use Rattle.std.proofs.Common.{◌≡◌, ℕ, true, false, refl, sym, List}
+use Rattle.std.proofs.Common.{◌≡◌, inl, inr, ℕ, true, false, refl, sym, List}
 use Rattle.std.proofs.lemmas.Bool.{true≢false}
 use Rattle.call_fsm.specs.declared.table.CallState.{CallState}
 use Rattle.call_fsm.specs.declared.table.CallState.TheVariants.{Idle, WaitTunnel, WaitReply, WaitConnect, Established}
@@ -7,6 +7,7 @@ use Rattle.call_fsm.specs.declared.table.CallEvent.TheVariants.{TunnelOpen, Icrq
 use Rattle.end_names.specs.declared.role.Role.{Role}
 use Rattle.end_names.specs.declared.role.Role.TheVariants.{Lac, Lns}
 use Rattle.end_model.specs.Calls.{call_row, row_of_none, advanced, rung, is_request, is_reply, is_up}
+use Rattle.frame_laws.specs.Facts.{KnowsItsMate}
 
 never : {X : Type 0} → false ≡ true → X
 never h = absurd (true≢false (sym h))
@@ -41,7 +42,9 @@ second_row Lac WaitConnect h = never h
 second_row Lac Established h = never h
 second_row Lns s h = refl
 
--- a call that rings isn't up
-pub rung_row : (who : List ℕ) (moment : ℕ) → is_up (rung Lac who moment).state ≡ false
+-- of a call that rings a LAC doesn't know the mate
+pub rung_row : (r : Role) (who : List ℕ) (moment : ℕ) → r ≡ Lac → KnowsItsMate r (rung r who moment) → ⊥
 unfolding rung advanced call_row
-rung_row who moment = refl
+rung_row Lac who moment lac (inl lns) = absurd cc
+rung_row Lac who moment lac (inr up) = absurd (true≢false (sym up))
+rung_row Lns who moment lac known = absurd cc

@@ -15,6 +15,7 @@ use Rattle.end_names.specs.declared.role.Role.TheVariants.{Lns}
 use Rattle.end_names.specs.Names.{node_of}
 use Rattle.end_model.specs.End.{End}
 use Rattle.world_model.specs.World.{World, Node, Sender, birth_in, birth_of, is_born, with_birth, moved, moved_all}
+use Rattle.step_laws.specs.Callers.{wanted_by_lac}
 use Rattle.step_laws.specs.Moves.{Adds, Replies, Does, Chain}
 use Rattle.frame_laws.specs.Facts.{Nodes, Born, birth_in_node}
 use Rattle.connection_laws.specs.Accounts.{Taken, about, account_from}
@@ -214,7 +215,7 @@ module _ (v : World) (number n : ℕ) (r : Role) (sender : Option Sender) (momen
       bears_one n u.nodes known (next_known (move.Added m) known) x y ok (calls_go x y ok.order (move.Added m) h)
       (deed_taken v number n r sender (move.Added m) known)
       m.session (next_birth u) (is_born u n m.session).nodes (born_nodes u n m.session ok.node ok.is) new next
-      (λ lns. absurd (not_both y.role (role ∙ h.role) lns))
+      (λ lns. absurd (not_both y.role (role ∙ wanted_by_lac x ev h.tunnel.control.peer h.wants) lns))
 
   -- an LNS's call has the birth of the call that the request names
   replied_born : (u : World) (known : Known) (x y : End) → BornOk n u.nodes known x → (m : Replied) → Replies x moment ev m y

@@ -129,8 +129,8 @@ module _ (x y : End) (o : Ordered x) where
   same : (i : ℕ) → y ≡ x → CallsGo x y i
   same i e = subst (λ z. CallsGo x z i) (sym e) (record { role = refl; rises = omega arith; order = o; from = λ j s c h. Was h })
 
-  opened_calls : (moment : ℕ) (m : Opened) → Opens x moment m y → CallsGo x y m.tunnel
-  opened_calls moment m h = rw h.after (puts_empty x _ m.tunnel _ (record { role = refl; tunnels = refl; rises = omega arith }) o refl)
+  opened_calls : (moment : ℕ) (ev : Event) (m : Opened) → Opens x moment ev m y → CallsGo x y m.tunnel
+  opened_calls moment ev m h = rw h.after (puts_empty x _ m.tunnel _ (record { role = refl; tunnels = refl; rises = omega arith }) o refl)
 
   accepted_calls : (moment : ℕ) (ev : Event) (m : Accepted) → Accepts x moment ev m y → CallsGo x y m.tunnel
   accepted_calls moment ev m h = rw h.after (puts_empty x _ m.tunnel _ (record { role = refl; tunnels = refl; rises = omega arith }) o refl)
@@ -233,7 +233,7 @@ module _ (x y : End) (o : Ordered x) where
 
   -- each move
   pub does_calls : (moment : ℕ) (ev : Event) (m : Move) → Does x moment ev m y → CallsGo x y (about m)
-  does_calls moment ev (move.Opened m) h = opened_calls moment m h
+  does_calls moment ev (move.Opened m) h = opened_calls moment ev m h
   does_calls moment ev (move.Accepted m) h = accepted_calls moment ev m h
   does_calls moment ev (move.Connected m) h = stays m.tunnel h.tunnel _ h.there h.after refl
   does_calls moment ev (move.Confirmed m) h = stays m.tunnel h.tunnel _ h.there h.after refl

@@ -1,7 +1,7 @@
 -- A LAC's call is made, in the machine too.
-use Rattle.std.proofs.Common.{◌≡◌, ◌⊎◌, inl, ⊎_elim, ℕ, ◌+◌, ◌<◌, ◌≤◌, Bool, true, false, cond, [], refl, sym, ap, ◌∙◌, subst, Option, Some, Ok, Err, arith, eq-eqb, ne_eqb}
-use Rattle.std.proofs.lemmas.Bool.{lt-ltb, ltb-false}
-use Rattle.std.specs.Prelude.{◌-◌, nat_lt, ◌||◌}
+use Rattle.std.proofs.Common.{◌≡◌, ◌⊎◌, inl, ⊎_elim, ℕ, ◌+◌, ◌<◌, ◌≤◌, true, false, [], refl, sym, ap, ◌∙◌, subst, Option, Some, arith, eq-eqb, ne_eqb}
+use Rattle.std.proofs.lemmas.Bool.{lt-ltb}
+use Rattle.std.specs.Prelude.{◌||◌}
 use Rattle.id_source.specs.Spaces.{Space, draw_is, next_is}
 use Rattle.id_table.specs.Ids.{put}
 use Rattle.id_table.specs.Order.{at_new, at_other}
@@ -14,6 +14,7 @@ use Rattle.end_model.specs.declared.moves.Added.{Added}
 use Rattle.end_model.specs.declared.moves.Move.TheVariants as move
 use Rattle.end_model.specs.declared.tunnel.Call.{Call}
 use Rattle.end_names.specs.declared.role.Role.{Role}
+use Rattle.end_names.specs.declared.role.Role.TheVariants.{Lac}
 use Rattle.end_model.specs.Calls.{rung}
 use Rattle.end_model.specs.Tunnels.{Tunnel}
 use Rattle.end_model.specs.End.{End}
@@ -22,6 +23,7 @@ use Rattle.epoch_machine.specs.Tunnels.{is_open, is_wait_reply}
 use Rattle.epoch_machine.specs.Calls.{Waits, is_born}
 use Rattle.epoch_machine.specs.Worlds.{World, all_rules}
 use Rattle.epoch_machine.specs.Moves.{AddsCall, step, may_add, adds_call}
+use Rattle.step_laws.specs.Callers.{wanted_by_lac}
 use Rattle.connection_laws.specs.Facts.{Accounts}
 use Rattle.connection_laws.specs.Steps.{after}
 use Rattle.session_laws.specs.Names.{name, phase_of, state_of}
@@ -138,8 +140,11 @@ module _ (laws : Laws) (accs : Accounts) (ends : Ends) (w : World) (n : ℕ) (e 
   unknown : w.calls.remote Z ≡ 0
   unknown = ((world_holds laws.births w h.joined.moves h.joined.run).calls.nameless Z new).remote
 
+  lac : e.role ≡ Lac
+  lac = wanted_by_lac e ev t.control.peer h.moved.does.wants
+
   waits : c.state ≡ WaitTunnel
-  waits = rw h.moved.does.role (rung_row m.subscriber moment)
+  waits = rw lac (rung_row m.subscriber moment)
 
   does : step all_rules w (AddsCall X Z) ≡ v
   does = adds_is w X Z (rw here.phase (goes_phase t.control.state h.moved.does.goes)) (name_some n s some) new
@@ -159,7 +164,7 @@ module _ (laws : Laws) (accs : Accounts) (ends : Ends) (w : World) (n : ℕ) (e 
   role = ap (λ (y : End). y.role) h.moved.does.after
 
   fits_role : FitsRole e.role c.state
-  fits_role = subst (λ q. FitsRole e.role q) (sym waits) (subst (λ (r : Role). FitsRole r WaitTunnel) (sym h.moved.does.role) tt)
+  fits_role = subst (λ q. FitsRole e.role q) (sym waits) (subst (λ (r : Role). FitsRole r WaitTunnel) (sym lac) tt)
 
   one : OneCall w v n i (after accs d n i).peer e x t u s
   one = record {

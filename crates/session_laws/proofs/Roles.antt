@@ -15,6 +15,7 @@ use Rattle.end_names.specs.declared.role.Role.TheVariants.{Lac, Lns}
 use Rattle.end_model.specs.Tunnels.{Tunnel}
 use Rattle.end_model.specs.End.{End}
 use Rattle.world_model.specs.World.{Sender, Deed, config_of}
+use Rattle.step_laws.specs.Callers.{wanted_by_lac}
 use Rattle.step_laws.specs.Letters.{Letter, letters_of}
 use Rattle.step_laws.specs.Moves.{Does}
 use Rattle.epoch_machine.specs.Worlds as machine
@@ -142,7 +143,8 @@ module _ (accs : Accounts) (n : ℕ) (e x : End) (sender : Option Sender) (momen
       → ((t : Tunnel) → at e.tunnels (about m) ≡ Some t → LiveOk accs n (about m) (accs n (about m)) t)
       → FitsEnd e.role (entered_by d m (accs n (about m)))
   entered_fits (move.Opened m) deed does h live =
-      given_fits e.role _ h d n sender (move.Opened m) deed _ refl refl (λ is. does.role) (does.role, tt)
+      let lac = wanted_by_lac e ev m.peer does.wants in
+      given_fits e.role _ h d n sender (move.Opened m) deed _ refl refl (λ is. lac) (lac, tt)
   entered_fits (move.Accepted m) deed does h live =
       both_fit e.role _ h d n sender (move.Accepted m) deed _ refl refl (λ is. absurd cc) m.taken (tt, tt)
   entered_fits (move.Connected m) deed does h live =

@@ -1,6 +1,6 @@
 -- A turn of a tunnel is a chain of moves of its end.
 use Rattle.step_laws.proofs.Callers.{turns_ring}
-use Rattle.step_laws.specs.Callers.{IsRing}
+use Rattle.step_laws.specs.Callers.{IsRing, WantsTunnel}
 use Rattle.std.proofs.Common.{◌≡◌, ◌⊎◌, inl, inr, ⊎_elim, ℕ, ◌<◌, ◌≤◌, length, Bool, true, false, List, [], refl, sym, ap, ◌∙◌, subst, Option, Some, None, Result, Ok, Err, arith, rules}
 use Rattle.std.proofs.lemmas.Bool.{eqb-true, eq-eqb, ltb-true, true≢false}
 use Rattle.std.proofs.lemmas.List.{append-nil}
@@ -32,7 +32,6 @@ use Rattle.end_model.specs.declared.tunnel.Call.{Call}
 use Rattle.end_model.specs.declared.tunnel.Control.{Control}
 use Rattle.end_model.specs.declared.tunnel.Link.{Link}
 use Rattle.lcp_end.specs.Laws.{OnPacket}
-use Rattle.end_names.specs.declared.role.Role.TheVariants.{Lac}
 use Rattle.end_model.specs.declared.event.Event.{Event}
 use Rattle.end_model.specs.declared.event.Event.TheVariants.{Datagram, Payload, Lower, Lcp, Hang, OpenTunnel, DropCall, CloseTunnel}
 use Rattle.end_model.specs.declared.out.Out.TheVariants.{Drop, Cause as Refused}
@@ -256,13 +255,13 @@ module _ (e : End) (kept : AreKept e) (moment : ℕ) (ev : Event) where
           }) refl refl))
           (λ c. absurd (true≢false (sym control ∙ c))))
 
-      pub rung_chain : (who : List ℕ) → (state_number t.control.state ≡ 3) ⊎ (state_number t.control.state ≡ 1) → IsChosen e i → t.control.peer ≡ e.config.lns → IsRing ev who
-          → e.role ≡ Lac → leads (turns e.role e.config t.letters t.calls ev start)
+      pub rung_chain : (who : List ℕ) → (state_number t.control.state ≡ 3) ⊎ (state_number t.control.state ≡ 1) → IsChosen e i → IsRing ev who
+          → WantsTunnel e ev t.control.peer → leads (turns e.role e.config t.letters t.calls ev start)
       unfolding begins
-      rung_chain who goes chosen lns same lac =
+      rung_chain who goes chosen same wants =
           subst leads (sym (turns_ring e.role e.config t.letters t.calls ev who start same))
           (settled_leads _ (settles_ok e moment ev t.letters t.calls i false _
-          (rings_ok e moment ev t.letters t.calls i k.calls who start begins refl chosen lns same goes lac)))
+          (rings_ok e moment ev t.letters t.calls i k.calls who start begins refl chosen same wants goes)))
 
       -- a call is closed by an event of its table
       closed_chain : (for : Cause) (on : CallEvent) (result s : ℕ) → ((c : Call) → WhyEnds (at_turn e moment ev t.letters t.calls i start) (tunnel_after start t.letters t.calls) ev moment s c on result None)
@@ -415,10 +414,10 @@ module _ (e : End) (kept : AreKept e) (moment : ℕ) (ev : Event) where
       unfolding takes_id
       drawn_some n is zero = let first = kept.first in grind (arith, rules)
 
-      opened_good : (local : ℕ) → length e.tunnels < 1024 → e.role ≡ Lac → peer ≡ e.config.lns → takes_id e.tunnel_ids ≡ Ok local → TurnOk e moment ev [] [] local (opened e.role e.config local blank)
+      opened_good : (local : ℕ) → length e.tunnels < 1024 → WantsTunnel e ev peer → takes_id e.tunnel_ids ≡ Ok local → TurnOk e moment ev [] [] local (opened e.role e.config local blank)
       unfolding opened gives with_move with_local with_calls with_looks placed
-      opened_good local fewer lac lns drawn = record {
-        chain = (_, record { few = fewer; drawn = drawn; given = refl; peer = lns; role = lac; asks = asks_so e.config.secret block; after = refl }, refl);
+      opened_good local fewer wants drawn = record {
+        chain = (_, record { few = fewer; drawn = drawn; given = refl; wants = wants; asks = asks_so e.config.secret block; after = refl }, refl);
         words = tt;
         tells = tt;
         frames = (tt, tt);
@@ -427,27 +426,27 @@ module _ (e : End) (kept : AreKept e) (moment : ℕ) (ev : Event) where
         fits = (ascends-empty [] refl, omega arith, (λ live. omega arith), (λ o. omega arith), omega arith, (λ closed. refl));
       }
 
-      pub opens_chain : e.role ≡ Lac → peer ≡ e.config.lns → ev ≡ OpenTunnel → has_all_tunnels e ≡ false → leads_new (turns e.role e.config [] [] OpenTunnel blank)
+      pub opens_chain : WantsTunnel e ev peer → ev ≡ OpenTunnel → has_all_tunnels e ≡ false → leads_new (turns e.role e.config [] [] OpenTunnel blank)
       unfolding turns opens opens_by
-      opens_chain lac lns opening fewer = by (takes_id e.tunnel_ids) refl
+      opens_chain wants opening fewer = by (takes_id e.tunnel_ids) refl
         where
           by : (x : Result ℕ IdError) → takes_id e.tunnel_ids ≡ x → leads_new (settles false [] (opens_by e.role e.config x blank))
           by (Err x) is = refused_new cause.Ids (ForOpening x opening fewer is)
           by (Ok local) is =
               branch (λ u. leads_new (settles false [] u)) (has_room (fresh peer moment)) (opened e.role e.config local blank) (with_output (Refused cause.Queue) blank)
-              (λ may. made_leads _ (record { id = local; some = drawn_some local is; good = opened_good local (not_all e fewer) lac lns is }))
+              (λ may. made_leads _ (record { id = local; some = drawn_some local is; good = opened_good local (not_all e fewer) wants is }))
               (λ full. absurd (true≢false full))
 
-      rung_good : (who : List ℕ) (s local : ℕ) → length e.tunnels < 1024 → e.role ≡ Lac → peer ≡ e.config.lns → IsRing ev who → takes_id e.session_ids ≡ Ok s
+      rung_good : (who : List ℕ) (s local : ℕ) → length e.tunnels < 1024 → WantsTunnel e ev peer → IsRing ev who → takes_id e.session_ids ≡ Ok s
           → takes_id e.tunnel_ids ≡ Ok local → TurnOk e moment ev [] [] local (adds e.role who s (opened e.role e.config local blank))
       unfolding opened gives with_move with_local with_calls
-      rung_good who s local fewer lac lns rings session drawn =
-          adds_ok e moment ev [] [] local who s (opened e.role e.config local blank) refl refl refl refl rings lac session (opened_good local fewer lac lns drawn)
+      rung_good who s local fewer wants rings session drawn =
+          adds_ok e moment ev [] [] local who s (opened e.role e.config local blank) refl refl refl refl rings wants session (opened_good local fewer wants drawn)
 
-      pub rings_chain : (who : List ℕ) → e.role ≡ Lac → peer ≡ e.config.lns → IsRing ev who → RingsNew e ev → has_all_tunnels e ≡ false
+      pub rings_chain : (who : List ℕ) → WantsTunnel e ev peer → IsRing ev who → RingsNew e ev → has_all_tunnels e ≡ false
           → leads_new (turns e.role e.config [] [] ev blank)
       unfolding rings rings_new
-      rings_chain who lac lns rings new fewer =
+      rings_chain who wants rings new fewer =
           subst leads_new (sym (turns_ring e.role e.config [] [] ev who blank rings)) (by (takes_id e.session_ids) (takes_id e.tunnel_ids) refl refl)
         where
           by : (x y : Result ℕ IdError) → takes_id e.session_ids ≡ x → takes_id e.tunnel_ids ≡ y
@@ -456,7 +455,7 @@ module _ (e : End) (kept : AreKept e) (moment : ℕ) (ev : Event) where
           by (Ok s) (Err y) is drawn = refused_new cause.Ids (ForNew new fewer (inr (y, drawn)))
           by (Ok s) (Ok local) is drawn =
               branch (λ u. leads_new (settles false [] u)) (has_room (fresh peer moment)) (adds e.role who s (opened e.role e.config local blank)) (with_output (Refused cause.Queue) blank)
-              (λ may. made_leads _ (record { id = local; some = drawn_some local drawn; good = rung_good who s local (not_all e fewer) lac lns rings is drawn }))
+              (λ may. made_leads _ (record { id = local; some = drawn_some local drawn; good = rung_good who s local (not_all e fewer) wants rings is drawn }))
               (λ full. absurd (true≢false full))
 
       -- a window that is learned before the id is that of the tunnel with the id

@@ -1,6 +1,6 @@
 -- What a tunnel hears is a chain of moves.
-use Rattle.step_laws.specs.Callers.{IsRing}
-use Rattle.std.proofs.Common.{◌≡◌, ◌⊎◌, inl, ⊎_elim, ℕ, Bool, true, false, cond, List, [], length, refl, sym, ap, ◌∙◌, subst, Option, Some, None, Result, Ok, Err, arith}
+use Rattle.step_laws.specs.Callers.{IsRing, WantsTunnel, wanted_to_lns}
+use Rattle.std.proofs.Common.{◌≡◌, ◌⊎◌, inl, ⊎_elim, ℕ, Bool, true, false, cond, List, [], length, refl, sym, ap, ◌∙◌, subst, Option, Some, Result, Ok, Err, arith}
 use Rattle.std.proofs.lemmas.Bool.{eqb-true, eqb-false, true≢false}
 use Rattle.std.specs.Prelude.{◌==◌, unwrap_or}
 use Rattle.id_table.specs.Order.{Ascends}
@@ -24,18 +24,15 @@ use Rattle.tunnel_fsm.specs.declared.table.TunnelAction.{TunnelAction}
 use Rattle.tunnel_fsm.specs.declared.table.TunnelAction.TheVariants as action
 use Rattle.tunnel_fsm.specs.Rows.{rows, row_of, state_number}
 use Rattle.end_model.specs.declared.tunnel.Call.{Call}
-use Rattle.end_model.specs.declared.tunnel.Config.{Config}
-use Rattle.end_names.specs.declared.role.Role.TheVariants.{Lac}
 use Rattle.end_model.specs.declared.tunnel.Control.{Control}
 use Rattle.end_model.specs.declared.event.Event.{Event}
-use Rattle.end_model.specs.declared.event.Event.TheVariants.{Ring}
 use Rattle.end_model.specs.Reading.{message_in, call_fault_in, tunnel_fault_in}
 use Rattle.end_model.specs.Calls.{are_too_many}
 use Rattle.end_model.specs.Tunnels.{Tunnel, Turn}
 use Rattle.end_model.specs.Moments.{is_closed}
 use Rattle.end_model.specs.Messages.{is_acceptable, event_by, opening_reason, tells_id, told_by, flags_of}
 use Rattle.end_model.specs.Reasons.{out_of_order, no_secret}
-use Rattle.end_model.specs.Events.{tunnel_after, with_calls}
+use Rattle.end_model.specs.Events.{with_calls}
 use Rattle.end_model.specs.Turn.{with_move}
 use Rattle.end_model.specs.Sending.{gives, takes_one, reads_nr, takes_plain}
 use Rattle.end_model.specs.Channels.{has_room, may_take, counts_acked}
@@ -286,45 +283,47 @@ module _ (e : End) (moment : ℕ) (ev : Event) (letters : List Letter) (calls : 
     goes_live : (t : Turn) → Goes t → is_closed t.control.state ≡ false
     goes_live t goes = ⊎_elim (λ is. live_open t.control is) (λ waits. live_in t.control 1 (λ f. omega (arith, f)) waits) goes
 
-    rings_over_ok : (who : List ℕ) (s : ℕ) (t : Turn) → Takes t → are_too_many calls ≡ false → Goes t → IsRing ev who → e.role ≡ Lac → takes_id t.ids.sessions ≡ Ok s
+    rings_over_ok : (who : List ℕ) (s : ℕ) (t : Turn) → Takes t → are_too_many calls ≡ false → Goes t → IsRing ev who → WantsTunnel e ev t.control.peer
+        → takes_id t.ids.sessions ≡ Ok s
         → TurnOk e moment ev letters calls i (rings_over e.role e.config who s t)
     unfolding rings_over
-    rings_over_ok who s t f few goes rings lac drawn =
+    rings_over_ok who s t f few goes rings wants drawn =
         let few_now : are_too_many (with_calls t.changed calls) ≡ false = ap are_too_many (calls_first e moment ev letters calls i t f.fresh) ∙ few in
         let may = spare_first e moment ev letters calls i t f in
         branch (TurnOk e moment ev letters calls i) (state_number t.control.state == 3) _ _
-        (λ is. adds_asked_ok e moment ev letters calls i who s t f.fresh.changes (eqb-true (state_number t.control.state) 3 is) few_now may rings lac drawn
+        (λ is. adds_asked_ok e moment ev letters calls i who s t f.fresh.changes (eqb-true (state_number t.control.state) 3 is) few_now may rings wants drawn
         (small_draw t.ids.sessions s drawn f.fresh.good.stays.2) f.fresh.good)
         (λ other. ⊎_elim
         (λ is_open. absurd (eqb-false (state_number t.control.state) 3 other is_open))
-        (λ waits. adds_ok e moment ev letters calls i who s t f.fresh.changes waits few_now may rings lac drawn f.fresh.good)
+        (λ waits. adds_ok e moment ev letters calls i who s t f.fresh.changes waits few_now may rings wants drawn f.fresh.good)
         goes)
 
     abbrev Rung : Turn → Type 0
     Rung u = TurnOk e moment ev letters calls i u
 
     -- over the tunnel that is there
-    module _ (who : List ℕ) (t : Turn) (f : Fresh e moment ev letters calls i t) (same : f.first ≡ t.control) (chosen : IsChosen e i) (lns : t.control.peer ≡ e.config.lns) (rings_is : IsRing ev who) where
+    module _ (who : List ℕ) (t : Turn) (f : Fresh e moment ev letters calls i t) (same : f.first ≡ t.control) (chosen : IsChosen e i) (rings_is : IsRing ev who)
+        (wants : WantsTunnel e ev t.control.peer) where
       rings_there : RingsOver e ev (begun e moment ev letters calls i t f)
-      rings_there = record { subscriber = who; rings = rings_is; id = i; chosen = chosen; there = f.there; peer = f.peer ∙ lns }
+      rings_there = record { subscriber = who; rings = rings_is; id = i; chosen = chosen; there = f.there; peer = f.peer ∙ wanted_to_lns e ev t.control.peer wants }
 
-      rings_by_ok : are_too_many calls ≡ false → may_take t.control calls ≡ true → Goes t → e.role ≡ Lac → (r : Result ℕ IdError) → takes_id t.ids.sessions ≡ r
+      rings_by_ok : are_too_many calls ≡ false → may_take t.control calls ≡ true → Goes t → (r : Result ℕ IdError) → takes_id t.ids.sessions ≡ r
           → Rung (rings_by e.role e.config who r t)
       unfolding rings_by
-      rings_by_ok few may goes lac (Err x) is =
+      rings_by_ok few may goes (Err x) is =
           caused_ok e moment ev letters calls i cause.Ids
           (ForRing (begun e moment ev letters calls i t f) x rings_there few (ap (λ c. may_take c calls) same ∙ may) (ap takes_id (sym f.sessions) ∙ is)) t f.good
-      rings_by_ok few may goes lac (Ok s) is =
-          rings_over_ok who s t (record { fresh = f; live = goes_live t goes; may = may }) few goes rings_is lac is
+      rings_by_ok few may goes (Ok s) is =
+          rings_over_ok who s t (record { fresh = f; live = goes_live t goes; may = may }) few goes rings_is wants is
 
-      pub rings_ok : Goes t → e.role ≡ Lac → Rung (rings e.role e.config calls who t)
+      pub rings_ok : Goes t → Rung (rings e.role e.config calls who t)
       unfolding rings rings_within
-      rings_ok goes lac =
+      rings_ok goes =
           branch Rung (state_number t.control.state == 0) _ _
           (λ idle. absurd (f.good.stays.1 (eqb-true (state_number t.control.state) 0 idle)))
           (λ busy. branch Rung (are_too_many calls) _ _
           (λ many. caused_ok e moment ev letters calls i cause.Calls (inl (begun e moment ev letters calls i t f, rings_there, many)) t f.good)
           (λ few. branch Rung (may_take t.control calls) _ _
-          (λ may. rings_by_ok few may goes lac (takes_id t.ids.sessions) refl)
+          (λ may. rings_by_ok few may goes (takes_id t.ids.sessions) refl)
           (λ full. caused_ok e moment ev letters calls i cause.Queue
           (begun e moment ev letters calls i t f, rings_there, few, ap (λ c. may_take c calls) same ∙ full) t f.good)))

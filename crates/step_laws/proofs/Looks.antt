@@ -1,8 +1,8 @@
 -- What the data plane sees of each session stays so.
-use Rattle.std.proofs.Common.{◌≡◌, ⊎_elim, ℕ, ◌+◌, ◌<◌, ◌≤◌, Bool, true, false, cond, List, [], ◌∷◌, refl, sym, ap, ◌∙◌, subst, Option, Some, None, Ok, Err, arith}
+use Rattle.std.proofs.Common.{◌≡◌, ⊎_elim, ℕ, ◌+◌, ◌<◌, ◌≤◌, Bool, true, false, List, [], ◌∷◌, refl, sym, ap, ◌∙◌, subst, Option, Some, None, Ok, arith}
 use Rattle.std.proofs.lemmas.Option.{none-some}
-use Rattle.std.specs.Prelude.{nat_lt, ◌-◌, ◌&&◌, ◌||◌, not, map}
-use Rattle.id_source.specs.Spaces.{Space, draws, takes_id, after_id, draw_is, next_is}
+use Rattle.std.specs.Prelude.{◌&&◌, ◌||◌, not, map}
+use Rattle.id_source.specs.Spaces.{Space, takes_id, after_id, draw_is, next_is}
 use Rattle.wire_base.specs.declared.letter.Letter.{Letter}
 use Rattle.tunnel_fsm.specs.declared.table.TunnelState.TheVariants as tunnel
 use Rattle.id_table.specs.Ids.{at, put, without, at-none, ids_of}
@@ -27,6 +27,7 @@ use Rattle.end_model.specs.Links.{with_link, link_after, is_first_open, looks_of
 use Rattle.lcp_end.specs.Laws.{after as lcp_after}
 use Rattle.step_laws.specs.Links.{begun_link}
 use Rattle.end_model.specs.End.{End, with_look, with_looks}
+use Rattle.step_laws.specs.Callers.{wanted_by_lac}
 use Rattle.step_laws.specs.Moves.{with_tunnel, Does, Chain}
 use Rattle.step_laws.specs.Steps.{AreKept, StepsAreChains}
 use Rattle.step_laws.proofs.States.{requested_state, replied_state, rung_state, connected_state, up_state, request_is_lac, connection_is_lac, reply_is_lns, connected_is_lns}
@@ -383,15 +384,16 @@ module _ (x : End) (ok : LooksAreTrue x) where
   does_looks order moment ev (move.Added m) y h =
       let fresh = (draw_is x.session_ids m.session h.drawn).0 in
       let next : y.session_ids.next ≡ m.session + 1 = ap (λ (e : End). e.session_ids.next) h.after ∙ drawn_next x.session_ids m.session h.drawn in
+      let lac = wanted_by_lac x ev h.tunnel.control.peer h.wants in
       call_put y m.tunnel h.tunnel _ _ m.session (rung x.role m.subscriber moment) (record {
         tunnels = ap (λ (e : End). e.tunnels) h.after;
         there = h.there;
         peer = refl;
         only = λ j u f o d g. no_tunnel m.session fresh j u f d g;
-        calls = same_places y.calls _ (ap (λ (e : End). e.calls) h.after ∙ rw (rung_state x.role m.subscriber moment h.role) refl);
+        calls = same_places y.calls _ (ap (λ (e : End). e.calls) h.after ∙ rw (rung_state x.role m.subscriber moment lac) refl);
         ids = ap (λ (e : End). e.tunnel_ids) h.after;
         role = ap (λ (e : End). e.role) h.after;
-        fits = rung_fits x.role m.subscriber moment h.role;
+        fits = rung_fits x.role m.subscriber moment lac;
         drawn = omega (arith, next);
         rises = omega (arith, next, fresh);
       })

@@ -15,6 +15,7 @@ use Rattle.end_names.specs.declared.role.Role.TheVariants.{Lac, Lns}
 use Rattle.end_model.specs.Calls.{call_row, row_for, row_of_none, advanced, rung, asked_for, is_request, is_reply}
 use Rattle.end_model.specs.Tunnels.{Tunnel}
 use Rattle.end_model.specs.End.{End, plain_step}
+use Rattle.step_laws.specs.Callers.{wanted_by_lac}
 use Rattle.step_laws.specs.Moves.{Does, Chain}
 use Rattle.step_laws.specs.Left.{CanBe, AreSound, CallsStaySound}
 use Rattle.step_laws.specs.Steps.{AreKept, StepsAreChains}
@@ -106,7 +107,7 @@ module _ (e : End) (whole : AreWhole e) where
   does_whole moment ev (move.Added m) x h =
       puts x _ m.tunnel _ h.after refl (last_after e.session_ids) refl
       (whole_put e.role h.tunnel.calls m.session _ (small_draw e.session_ids m.session h.drawn whole.last)
-      (rw h.role (can_ring m.subscriber moment)) (whole.calls m.tunnel h.tunnel h.there))
+      (rw (wanted_by_lac e ev h.tunnel.control.peer h.wants) (can_ring m.subscriber moment)) (whole.calls m.tunnel h.tunnel h.there))
   does_whole moment ev (move.Requested m) x h =
       puts x _ m.tunnel _ h.after refl refl refl
       (whole_put e.role h.tunnel.calls m.session _ h.session (can_request e.role h.call.state h.row) (whole.calls m.tunnel h.tunnel h.there))

@@ -1,6 +1,6 @@
 -- Each step of an end is a chain of moves.
 use Rattle.end_names.specs.Names.{subscriber}
-use Rattle.step_laws.specs.Callers.{IsRing}
+use Rattle.step_laws.specs.Callers.{IsRing, LacWants}
 use Rattle.std.proofs.Common.{◌≡◌, ◌⊎◌, inl, inr, ℕ, Bool, true, false, List, [], ◌∷◌, length, refl, sym, ap, ◌∙◌, subst, Option, Some, None, Result, Ok, Err}
 use Rattle.std.proofs.lemmas.Bool.{eqb-true, true≢false}
 use Rattle.std.specs.Prelude.{◌==◌, ◌||◌, nat_lt, not, option_map}
@@ -212,7 +212,8 @@ module _ (e : End) (kept : AreKept e) (moment : ℕ) (block : List ℕ) where
       → IsStep e moment ev (in_main e env ev i o)
   unfolding in_main
   main_rung ev who ring i lac chosen None is goes = drop_chain e kept moment ev why.Tunnel (λ q. absurd cc)
-  main_rung ev who ring i lac chosen (Some t) is goes = rung_chain e kept moment ev block i t is who (goes t refl).0 chosen (goes t refl).1 ring lac
+  main_rung ev who ring i lac chosen (Some t) is goes = rung_chain e kept moment ev block i t is who (goes t refl).0 chosen ring
+      (LacWants lac (goes t refl).1 (inr (who, ring)))
 
   main_payload : (s : ℕ) (frame : List ℕ) (i : ℕ) (o : Option Tunnel) → at e.tunnels i ≡ o → IsStep e moment (Payload s frame) (in_main e env (Payload s frame) i o)
   unfolding in_main turns
@@ -323,7 +324,7 @@ module _ (e : End) (kept : AreKept e) (moment : ℕ) (block : List ℕ) where
   rung ev who ring lac None None is next =
       branch (IsStep e moment ev) (has_all_tunnels e) _ _
       (λ all. cause_chain e kept moment ev cause.Tunnels (inl (who, ring, none_open e kept is, none_opening e kept next), all))
-      (λ fewer. rings_chain e kept moment ev block e.config.lns who lac refl ring (who, ring, none_open e kept is, none_opening e kept next) fewer)
+      (λ fewer. rings_chain e kept moment ev block e.config.lns who (LacWants lac refl (inr (who, ring))) ring (who, ring, none_open e kept is, none_opening e kept next) fewer)
 
   gives_payload : (s : ℕ) (frame : List ℕ) (o : Option CallPlace) → IsStep e moment (Payload s frame) (for_call e env (Payload s frame) o)
   unfolding for_call
@@ -378,7 +379,7 @@ module _ (e : End) (kept : AreKept e) (moment : ℕ) (block : List ℕ) where
   step_chain OpenTunnel = by_lac OpenTunnel _ (λ lac.
       branch (IsStep e moment OpenTunnel) (has_all_tunnels e) _ _
       (λ all. cause_chain e kept moment OpenTunnel cause.Tunnels (inr (inl refl), all))
-      (λ fewer. opens_chain e kept moment OpenTunnel block e.config.lns lac refl refl fewer))
+      (λ fewer. opens_chain e kept moment OpenTunnel block e.config.lns (LacWants lac refl (inl refl)) refl fewer))
 
 pub steps_are_chains : StepsAreChains
 steps_are_chains e kept moment block ev = (step_chain e kept moment block ev).chain

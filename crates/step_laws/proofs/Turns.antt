@@ -1,5 +1,5 @@
 -- Each part of a turn is a move, from the end as the turn has it so far.
-use Rattle.step_laws.specs.Callers.{IsRing}
+use Rattle.step_laws.specs.Callers.{IsRing, WantsTunnel, LacWants, wanted_by_lac}
 use Rattle.std.proofs.Common.{◌≡◌, ◌⊎◌, inl, inr, ℕ, ◌+◌, ◌-◌, ◌%◌, ◌^◌, ◌<◌, ◌≤◌, Bool, true, false, List, [], ◌∷◌, ◌++◌, length, refl, sym, ap, ◌∙◌, subst, Option, Some, None, Result, Ok, Err, arith, rules}
 use Rattle.std.proofs.lemmas.List.{append-nil, append_assoc, length-append, length-drop}
 use Rattle.std.specs.List.{AllByRecursion}
@@ -20,7 +20,6 @@ use Rattle.send_window.specs.Window as sending
 use Rattle.control_channel.specs.Numbers.{count_acked}
 use Rattle.tunnel_fsm.specs.declared.table.TunnelState.TheVariants.{WaitCtlReply, WaitCtlConn, Established}
 use Rattle.tunnel_fsm.specs.Rows.{state_number}
-use Rattle.call_fsm.specs.declared.table.CallState.TheVariants as call
 use Rattle.call_fsm.specs.declared.table.CallEvent.TheVariants as call_event
 use Rattle.end_model.specs.declared.tunnel.Call.{Call}
 use Rattle.session_looks.specs.declared.look.CellChange.TheVariants as cell
@@ -28,7 +27,6 @@ use Rattle.end_model.specs.declared.tunnel.Control.{Control}
 use Rattle.end_names.specs.declared.role.Role.{Role}
 use Rattle.end_names.specs.declared.role.Role.TheVariants.{Lac}
 use Rattle.end_model.specs.declared.event.Event.{Event}
-use Rattle.end_model.specs.declared.event.Event.TheVariants.{Ring}
 use Rattle.end_model.specs.declared.moves.Refused.{Refused}
 use Rattle.end_model.specs.declared.out.Out.{Out}
 use Rattle.end_model.specs.declared.out.Out.TheVariants.{Send, Up, Gone, Drop, Cause}
@@ -333,12 +331,16 @@ module _ (e : End) (moment : ℕ) (ev : Event) (letters : List Letter) (calls : 
 
   -- ---- moves of calls
 
+  -- what the end wants, it wants as the turn has it too
+  wants_now : (t : Turn) (peer : ℕ) → WantsTunnel e ev peer → WantsTunnel (at_turn t) ev peer
+  wants_now t peer (LacWants lac lns asks) = LacWants lac lns asks
+
   adds_chain : (who : List ℕ) (s : ℕ) (t : Turn) → t.changes ≡ [] → (state_number t.control.state ≡ 3) ⊎ (state_number t.control.state ≡ 1)
-      → are_too_many (with_calls t.changed calls) ≡ false → may_take t.control (with_calls t.changed calls) ≡ true → IsRing ev who → e.role ≡ Lac
+      → are_too_many (with_calls t.changed calls) ≡ false → may_take t.control (with_calls t.changed calls) ≡ true → IsRing ev who → WantsTunnel e ev t.control.peer
       → takes_id t.ids.sessions ≡ Ok s → t.on.moment ≡ moment → Chain moment ev e t.moves (at_turn t)
       → Chain moment ev e (adds e.role who s t).moves (at_turn (adds e.role who s t))
   unfolding adds with_move with_new with_looks
-  adds_chain who s t none goes few spare rings lac drawn now_is h =
+  adds_chain who s t none goes few spare rings wants drawn now_is h =
       let m = move.Added (record { tunnel = t.control.local; session = s; subscriber = who }) in
       chain_more moment ev e (at_turn t) _ t.moves m h (record {
         tunnel = tunnel_after t letters calls;
@@ -347,7 +349,7 @@ module _ (e : End) (moment : ℕ) (ev : Event) (letters : List Letter) (calls : 
         few = few;
         spare = spare;
         rings = rings;
-        role = lac;
+        wants = wants_now t t.control.peer wants;
         drawn = drawn;
         after =
             let changed = with_calls-more t.changed s (Some (rung e.role who t.on.moment)) calls in
@@ -368,13 +370,13 @@ module _ (e : End) (moment : ℕ) (ev : Event) (letters : List Letter) (calls : 
 
   -- over a tunnel that isn't open the call waits
   pub adds_ok : (who : List ℕ) (s : ℕ) (t : Turn) → t.changes ≡ [] → state_number t.control.state ≡ 1
-      → are_too_many (with_calls t.changed calls) ≡ false → may_take t.control (with_calls t.changed calls) ≡ true → IsRing ev who → e.role ≡ Lac
+      → are_too_many (with_calls t.changed calls) ≡ false → may_take t.control (with_calls t.changed calls) ≡ true → IsRing ev who → WantsTunnel e ev t.control.peer
       → takes_id t.ids.sessions ≡ Ok s → TurnOk t → TurnOk (adds e.role who s t)
   unfolding adds with_move with_new
-  adds_ok who s t none waits few spare rings lac drawn h =
-      let fit = adds_fit who s t few spare lac h in
+  adds_ok who s t none waits few spare rings wants drawn h =
+      let fit = adds_fit who s t few spare (wanted_by_lac e ev t.control.peer wants) h in
       record {
-        chain = adds_chain who s t none (inr waits) few spare rings lac drawn h.stays.4 h.chain;
+        chain = adds_chain who s t none (inr waits) few spare rings wants drawn h.stays.4 h.chain;
         words = h.words;
         tells = h.tells;
         frames = all_push NoFrame t.moves _ h.frames tt;
@@ -391,35 +393,35 @@ module _ (e : End) (moment : ℕ) (ev : Event) (letters : List Letter) (calls : 
       rw (with_calls-more t.changed s (Some c) calls) (at_new (with_calls t.changed calls) s c)
 
   adds_requested_ok : (who : List ℕ) (s : ℕ) (t : Turn) → t.changes ≡ [] → state_number t.control.state ≡ 3
-      → are_too_many (with_calls t.changed calls) ≡ false → may_take t.control (with_calls t.changed calls) ≡ true → IsRing ev who → e.role ≡ Lac
+      → are_too_many (with_calls t.changed calls) ≡ false → may_take t.control (with_calls t.changed calls) ≡ true → IsRing ev who → WantsTunnel e ev t.control.peer
       → takes_id t.ids.sessions ≡ Ok s → s < 65536 → is_request (call_row e.role (rung e.role who t.on.moment).state call_event.TunnelOpen).1 ≡ true
       → has_room t.control ≡ true → TurnOk t → TurnOk (requested e.role e.config s (rung e.role who t.on.moment) (adds e.role who s t))
   unfolding requested gives_as with_change with_move with_call adds with_new
-  adds_requested_ok who s t none is_open few spare rings lac drawn small row room h =
+  adds_requested_ok who s t none is_open few spare rings wants drawn small row room h =
       let u = adds e.role who s t in
       let c = rung e.role who t.on.moment in
       let found = adds_found who s t in
       record {
-        chain = requested_chain s c u is_open found small row room h.stays.4 (adds_chain who s t none (inl is_open) few spare rings lac drawn h.stays.4 h.chain);
+        chain = requested_chain s c u is_open found small row room h.stays.4 (adds_chain who s t none (inl is_open) few spare rings wants drawn h.stays.4 h.chain);
         words = h.words;
         tells = h.tells;
         frames = all_push NoFrame _ _ (all_push NoFrame t.moves _ h.frames tt) tt;
         stays = (h.stays.0, h.stays.1, small_last t h.stays.2, h.stays.3, h.stays.4, h.stays.5);
         held = given_held t (letter_as 0 (request_of s c.subscriber) (hidden_request e.config t.on.block s c.subscriber)) h.held;
-        fits = requested_fits s c u (live_open t.control is_open) found row (adds_fit who s t few spare lac h);
+        fits = requested_fits s c u (live_open t.control is_open) found row (adds_fit who s t few spare (wanted_by_lac e ev t.control.peer wants) h);
       }
 
   -- over an open one it is asked for at once, so that it owes two letters, and not three
   pub adds_asked_ok : (who : List ℕ) (s : ℕ) (t : Turn) → t.changes ≡ [] → state_number t.control.state ≡ 3
-      → are_too_many (with_calls t.changed calls) ≡ false → may_take t.control (with_calls t.changed calls) ≡ true → IsRing ev who → e.role ≡ Lac
+      → are_too_many (with_calls t.changed calls) ≡ false → may_take t.control (with_calls t.changed calls) ≡ true → IsRing ev who → WantsTunnel e ev t.control.peer
       → takes_id t.ids.sessions ≡ Ok s → s < 65536 → TurnOk t → TurnOk (requests e.role e.config s (rung e.role who t.on.moment) (adds e.role who s t))
   unfolding requests adds with_move with_new
-  adds_asked_ok who s t none is_open few spare rings lac drawn small h =
+  adds_asked_ok who s t none is_open few spare rings wants drawn small h =
       branch TurnOk (is_request (call_row e.role (rung e.role who t.on.moment).state call_event.TunnelOpen).1) _ _
       (λ row. branch TurnOk (has_room t.control) _ _
-      (λ may. adds_requested_ok who s t none is_open few spare rings lac drawn small row may h)
+      (λ may. adds_requested_ok who s t none is_open few spare rings wants drawn small row may h)
       (λ full. absurd (is_roomy t (live_open t.control is_open) h full)))
-      (λ no. absurd (true≢false (sym (rung_asks e.role who t.on.moment lac) ∙ no)))
+      (λ no. absurd (true≢false (sym (rung_asks e.role who t.on.moment (wanted_by_lac e ev t.control.peer wants)) ∙ no)))
 
   pub replied_ok : (remote s session serial : ℕ) (calling : Option (List ℕ)) (t : Turn) → t.changes ≡ [] → state_number t.control.state ≡ 3
       → HearsNext ev (tunnel_after t letters calls) session (Icrq remote serial calling) → at (with_calls t.changed calls) session ≡ None

@@ -1,5 +1,5 @@
 -- What each move needs before it, and what it changes.
-use Rattle.step_laws.specs.Callers.{IsRing}
+use Rattle.step_laws.specs.Callers.{IsRing, WantsTunnel}
 use Rattle.std.specs.Prelude.{◌≡◌, ℕ, ◌+◌, ◌%◌, ◌<◌, ◌≤◌, ◌⊎◌, Bool, true, false, ◌==◌, if◌then◌else◌, nat_le, nat_lt, List, [], ◌∷◌, ◌++◌, drop, map, length, Option, None, Some, is_some, unwrap_or, Result, Ok, Err}
 use Rattle.wire_base.specs.declared.why.Why.{Why}
 use Rattle.id_table.specs.Ids.{at, put, without, ids_of}
@@ -143,12 +143,11 @@ begun local peer remote state moment challenge = record {
 abbrev pub learns_window : ℕ → Control → Control
 learns_window window c = if window == 0 then c else record c { channel = learnt_by c.channel window }
 
-pub record Opens (e : End) (moment : ℕ) (m : Opened) (x : End) : Type 0 where
+pub record Opens (e : End) (moment : ℕ) (ev : Event) (m : Opened) (x : End) : Type 0 where
   pub few : length e.tunnels < 1024
   pub drawn : takes_id e.tunnel_ids ≡ Ok m.tunnel
   pub given : m.given ≡ place 0
-  pub peer : m.peer ≡ e.config.lns
-  pub role : e.role ≡ Lac
+  pub wants : WantsTunnel e ev m.peer
   pub asks : Asks e.config.secret m.challenge
   pub after : x ≡ record (with_tunnel e m.tunnel (with_letter 0 (Sccrq (opening_of e.role e.config m.challenge None m.tunnel)) (new_tunnel (begun m.tunnel m.peer 0 WaitCtlReply moment m.challenge)))) {
     tunnel_ids = after_id e.tunnel_ids;
@@ -224,7 +223,7 @@ pub record Adds (e : End) (moment : ℕ) (ev : Event) (m : Added) (x : End) : Ty
   pub few : has_all_calls tunnel.calls ≡ false
   pub spare : may_take tunnel.control tunnel.calls ≡ true
   pub rings : IsRing ev m.subscriber
-  pub role : e.role ≡ Lac
+  pub wants : WantsTunnel e ev tunnel.control.peer
   pub drawn : takes_id e.session_ids ≡ Ok m.session
   pub after : x ≡ record (with_tunnel e m.tunnel (record tunnel { calls = put tunnel.calls m.session (rung e.role m.subscriber moment) })) {
     session_ids = after_id e.session_ids;
@@ -713,7 +712,7 @@ pub record HandsUp (e : End) (ev : Event) (m : FrameUp) (x : End) : Type 0 where
 -- ---- a move at a moment, and a chain of moves
 
 abbrev pub Does : End → ℕ → Event → Move → End → Type 0
-Does e moment ev (move.Opened m) x = Opens e moment m x
+Does e moment ev (move.Opened m) x = Opens e moment ev m x
 Does e moment ev (move.Accepted m) x = Accepts e moment ev m x
 Does e moment ev (move.Connected m) x = Connects e ev m x
 Does e moment ev (move.Confirmed m) x = Confirms e ev m x
