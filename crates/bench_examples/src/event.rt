@@ -1,6 +1,7 @@
 //! The events that words tell.
 
 use end_model::{Event, address_of};
+use l2tp_datagram::Datagram;
 use std::alloc::{AllocError, Global};
 use wire_base::{Bytes, NoMemory};
 
@@ -66,11 +67,11 @@ fn event_of_id(word: &str, id: u16) -> Result<Event, Fault> {
 }
 
 /// The event of a word, a number and bytes: a datagram of a node, or a frame of the subscriber's or of the network's for a session.
-fn event_of_bytes(word: &str, number: &str, bytes: Bytes) -> Result<Event, Fault> {
+fn event_of_bytes(alloc: Global, word: &str, number: &str, bytes: Bytes) -> Result<Event, Fault> {
     match word {
         "from" => Ok(Event::Datagram {
             peer: peer_of(number)?,
-            bytes,
+            datagram: Datagram::read(alloc, bytes),
         }),
         "payload" => Ok(Event::Payload {
             session: id_of(number)?,
@@ -94,12 +95,12 @@ pub(crate) fn event_of(alloc: Global, peer: u32, words: &str) -> Result<Event, F
             bytes: bytes_of(alloc, digits)?,
         }),
         (_, Some((word, about))) => match about.split_once(' ') {
-            Some((number, digits)) => event_of_bytes(word, number, bytes_of(alloc, digits)?),
+            Some((number, digits)) => event_of_bytes(alloc, word, number, bytes_of(alloc, digits)?),
             None => event_of_id(word, id_of(about)?),
         },
         (_, None) => Ok(Event::Datagram {
             peer,
-            bytes: bytes_of(alloc, words)?,
+            datagram: Datagram::read(alloc, bytes_of(alloc, words)?),
         }),
     }
 }

@@ -7,6 +7,7 @@ ghost use Rattle.end_core.specs.Gives.{GivesStep, CommitsStep};
 use crate::end::{End, Given};
 use control_message::{Message, Opening};
 use end_model::{ControlOrigin, Declined, Move, Origin, Out};
+use l2tp_datagram::Body;
 use message_reading::{
     Reason, Said, decline_bytes, fault_reason, is_of_version, lacks_secret, no_id, no_recovery,
     no_secret, no_tunnel, other_version, read_body,
@@ -56,7 +57,7 @@ impl End {
 
     /// What stands against a message that would open a tunnel, the first that counts.
     #[tactic(auto, unfolding(end_model::specs::End::against_body))]
-    pub(crate) fn against_body(&self, body: &[u8]) -> Result<Option<Reason>, NoMemory>
+    pub(crate) fn against_body(&self, body: &Body<'_>) -> Result<Option<Reason>, NoMemory>
         ensures { IfOk result (λ r. r ≡ against_body self.now body.now) }
     {
         let said = read_body(self.alloc, body)?;

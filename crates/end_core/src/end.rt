@@ -21,7 +21,8 @@ use call_places::look_at;
 use end_model::{Addressee, CallPlace, Config, Control, Event, Move, Out, Role};
 use id_source::Ids;
 use id_table::Table;
-use l2tp_header::{Header, read_header};
+use l2tp_datagram::{Body, Datagram};
+use l2tp_header::Header;
 use message_reading::{at_zero, next_of_peer, out_of_order, uncover_datagram};
 use session_looks::{CellChanges, Look, header_why};
 use std::alloc::Global;
@@ -559,7 +560,7 @@ impl End {
 
     /// What a control message is for.
     #[tactic(auto, using(tunnel_table::specs::Tunnels::at_tunnels), unfolding(end_model::specs::End::addressed, end_model::specs::Reading::at_tunnel))]
-    fn addressed(&self, peer: u32, header: &Header, body: &[u8]) -> Result<Addressee, NoMemory>
+    fn addressed(&self, peer: u32, header: &Header, body: &Body<'_>) -> Result<Addressee, NoMemory>
         ensures { IfOk result (λ to. to ≡ addressed self.now peer header.now body.now) }
     {
         if header.tunnel == 0 {
@@ -581,17 +582,17 @@ impl End {
 
     /// The tunnel that a datagram of which nothing is hidden is for, where it is a control message and there is one.
     #[tactic(auto, using(tunnel_table::specs::Tunnels::at_tunnels), unfolding(end_model::specs::End::reached_plain, end_model::specs::End::reached_by, end_model::specs::End::main_of))]
-    fn reached_plain(&self, peer: u32, bytes: &[u8]) -> Result<Option<Control>, NoMemory>
-        ensures { IfOk result (λ found. found ≡ reached_plain self.now peer bytes.now) }
+    fn reached_plain(&self, peer: u32, datagram: &Datagram) -> Result<Option<Control>, NoMemory>
+        ensures { IfOk result (λ found. found ≡ reached_plain self.now peer datagram.now) }
     {
-        let Ok(header) = read_header(bytes) else {
+        let Ok(header) = datagram.header() else {
             return Ok(None);
         };
         if !header.control {
             return Ok(None);
         }
-        let body = &bytes[header.start..header.end];
-        match self.addressed(peer, &header, body)? {
+        let body = datagram.body(&header);
+        match self.addressed(peer, &header, &body)? {
             Addressee::Main { tunnel } => Ok(self.tunnel(tunnel).map(|core| *core.control())),
             Addressee::Opens { .. }
             | Addressee::Stops { .. }
@@ -601,20 +602,23 @@ impl End {
     }
 
     /// A datagram as the end reads it by its secret, None where it is as it came.
-    fn plain_datagram(&self, bytes: &[u8]) -> Result<Option<Bytes>, NoMemory>
-        ensures { IfOk result (λ r. unwrap_or r bytes.now ≡ uncovered_datagram self.now.config.secret bytes.now) }
+    fn plain_datagram(&self, datagram: &Datagram) -> Result<Option<Datagram>, NoMemory>
+        ensures { IfOk result (λ r. unwrap_or r datagram.now ≡ uncovered_datagram self.now.config.secret datagram.now) }
     {
-        uncover_datagram(self.alloc, &self.config.secret, bytes)
+        match uncover_datagram(self.alloc, &self.config.secret, datagram)? {
+            None => Ok(None),
+            Some(bytes) => Ok(Some(Datagram::read(self.alloc, bytes))),
+        }
     }
 
     /// The tunnel that a datagram from a peer is for, as the end reads it by its secret, where it is a control message and
     /// there is one.
-    pub fn reached(&self, peer: u32, bytes: &[u8]) -> Result<Option<Control>, NoMemory>
-        ensures { IfOk result (λ found. found ≡ reached self.now peer bytes.now) }
+    pub fn reached(&self, peer: u32, datagram: &Datagram) -> Result<Option<Control>, NoMemory>
+        ensures { IfOk result (λ found. found ≡ reached self.now peer datagram.now) }
     {
-        match self.plain_datagram(bytes)? {
-            None => self.reached_plain(peer, bytes),
-            Some(plain) => self.reached_plain(peer, plain.as_slice()),
+        match self.plain_datagram(datagram)? {
+            None => self.reached_plain(peer, datagram),
+            Some(plain) => self.reached_plain(peer, &plain),
         }
     }
 
@@ -623,12 +627,15 @@ impl End {
     pub fn plain_event(&self, event: &Event) -> Result<Option<Event>, NoMemory>
         ensures { IfOk result (λ r. unwrap_or r event.now ≡ uncovered_event self.now.config.secret event.now) }
     {
-        let Event::Datagram { peer, bytes } = event else {
+        let Event::Datagram { peer, datagram } = event else {
             return Ok(None);
         };
-        match self.plain_datagram(bytes.as_slice())? {
+        match self.plain_datagram(datagram)? {
             None => Ok(None),
-            Some(bytes) => Ok(Some(Event::Datagram { peer: *peer, bytes })),
+            Some(datagram) => Ok(Some(Event::Datagram {
+                peer: *peer,
+                datagram,
+            })),
         }
     }
 
@@ -642,7 +649,7 @@ impl End {
         event: &Event,
         peer: u32,
         header: &Header,
-        body: &[u8],
+        body: &Body<'_>,
         to: Addressee,
     ) -> Result<Given, StepFault<L::Stop>>
         requires ledger { L.can_commit ledger.old }
@@ -709,23 +716,24 @@ impl End {
         block: [u8; 16],
         event: &Event,
         peer: u32,
-        bytes: &[u8],
+        datagram: &Datagram,
     ) -> Result<Given, StepFault<L::Stop>>
         requires ledger { L.can_commit ledger.old }
-        requires event { event.now ≡ Event.Datagram peer bytes.now }
-        ensures given { GivesStep result (receives self.old (env_of self.old moment block) peer bytes.now (header_of bytes.now)) self.old self.new }
-        ensures committed { CommitsStep L.commits_to result (receives self.old (env_of self.old moment block) peer bytes.now (header_of bytes.now)) self.old ledger.old ledger.new }
+        requires event { event.now ≡ Event.Datagram peer datagram.now }
+        ensures given { GivesStep result (receives self.old (env_of self.old moment block) peer datagram.now (header_of datagram.now)) self.old self.new }
+        ensures committed { CommitsStep L.commits_to result (receives self.old (env_of self.old moment block) peer datagram.now (header_of datagram.now)) self.old ledger.old ledger.new }
         ensures role { self.new.role ≡ self.old.role }
     {
-        match read_header(bytes) {
+        match datagram.header() {
             Err(error) => self.drop_with(ledger, header_why(error)),
             Ok(header) => {
-                let body = &bytes[header.start..header.end];
                 if !header.control {
+                    let body = &datagram.as_slice()[header.start..header.end];
                     return self.hand_up(ledger, moment, block, peer, &header, body);
                 }
-                let to = self.addressed(peer, &header, body)?;
-                self.run_addressed(ledger, moment, block, event, peer, &header, body, to)
+                let body = datagram.body(&header);
+                let to = self.addressed(peer, &header, &body)?;
+                self.run_addressed(ledger, moment, block, event, peer, &header, &body, to)
             }
         }
     }

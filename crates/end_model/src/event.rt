@@ -1,12 +1,13 @@
 //! What comes to an end.
 
+use l2tp_datagram::Datagram;
 use wire_base::{Bytes, Why};
 
 /// What comes to an end.
 #[derive(Drop)]
 pub enum Event {
     /// A datagram from a peer, an IPv4 address as a number.
-    Datagram { peer: u32, bytes: Bytes },
+    Datagram { peer: u32, datagram: Datagram },
     /// A port of a LAC rings.
     Ring { port: u16 },
     /// An Ethernet frame comes to a LAC, from its destination address on.

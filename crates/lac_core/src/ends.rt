@@ -63,8 +63,8 @@ fn plain_step<L: Ledger>(
     ensures role { end.new.role ≡ end.old.role }
 {
     match event {
-        Event::Datagram { peer, bytes } => {
-            end.receive(ledger, moment, block, event, *peer, bytes.as_slice())
+        Event::Datagram { peer, datagram } => {
+            end.receive(ledger, moment, block, event, *peer, datagram)
         }
         Event::Ring { .. } | Event::Admitted { .. } => ring(end, ledger, moment, block, event),
         Event::Payload { session, .. } | Event::Hang { session } | Event::DropCall { session } =>

@@ -2,6 +2,7 @@
 
 use bench_examples::Bench;
 use end_model::{Event, address_of};
+use l2tp_datagram::Datagram;
 use l2tp_header::write_control;
 use std::alloc::Global;
 use std::test::Fail;
@@ -58,7 +59,7 @@ impl Peer {
 fn hear(alloc: Global, bench: &mut Bench, datagram: &Bytes) -> Result<Bytes, NoMemory> {
     let event = Event::Datagram {
         peer: address_of(9),
-        bytes: Bytes::from_slice(alloc, datagram.as_slice())?,
+        datagram: Datagram::read(alloc, Bytes::from_slice(alloc, datagram.as_slice())?),
     };
     bench.give(alloc, &event)
 }

@@ -110,9 +110,9 @@ impl Lns {
         ensures committed { CommitsStep L.commits_to result (plain_step self.old moment block event.now) self.old ledger.old ledger.new }
     {
         match event {
-            Event::Datagram { peer, bytes } => {
+            Event::Datagram { peer, datagram } => {
                 self.end
-                    .receive(ledger, moment, block, event, *peer, bytes.as_slice())
+                    .receive(ledger, moment, block, event, *peer, datagram)
             }
             Event::Lower { session, .. }
             | Event::Lcp { session, .. }

@@ -5,11 +5,12 @@ ghost use Rattle.tunnel_fsm.specs.declared.table.TunnelEvent.TheVariants as even
 ghost use Rattle.control_message.specs.Reading.{kind_of_pairs};
 ghost use Rattle.end_model.specs.Reading.{message_in, pairs_read, fault_cause, is_about_call, is_request, is_value, is_for_call, fault_of_kind, fault_of_pairs, call_fault_in, event_of_kind, told_by_kind, closing, closing_by, tunnel_fault_of_kind, tunnel_fault_read, tunnel_fault_of_pairs, tunnel_fault_in};
 
-use avp_codec::{AvpError, Avps, read_avps};
+use avp_codec::{AvpError, Avps};
 use control_message::{
     Kind, Kinds, Message, MessageError, Read, assigned_session, assigned_tunnel, kind_of_pairs,
     read_message,
 };
+use l2tp_datagram::Body;
 use std::alloc::Global;
 use std::marker::Model;
 use tunnel_fsm::TunnelEvent;
@@ -199,13 +200,13 @@ fn said_of(alloc: Global, avps: &Avps) -> Result<Said, NoMemory>
 
 /// What the body of a control message says.
 #[tactic(auto, unfolding(end_model::specs::Reading::message_in, end_model::specs::Reading::pairs_read, end_model::specs::Reading::call_fault_in, end_model::specs::Reading::fault_of_pairs, end_model::specs::Reading::tunnel_fault_in, end_model::specs::Reading::tunnel_fault_of_pairs))]
-pub fn read_body(alloc: Global, body: &[u8]) -> Result<Said, NoMemory>
+pub fn read_body(alloc: Global, body: &Body<'_>) -> Result<Said, NoMemory>
     ensures message { IfOk result (λ said. said.message ≡ message_in body.now) }
     ensures fault { IfOk result (λ said. said.fault ≡ call_fault_in body.now) }
     ensures closing { IfOk result (λ said. said.closing ≡ tunnel_fault_in body.now) }
 {
-    match read_avps(alloc, body) {
-        Ok(avps) => said_of(alloc, &avps),
+    match body.pairs() {
+        Ok(avps) => said_of(alloc, avps),
         Err(AvpError::NoMemory) => Err(NoMemory),
         Err(_) => Ok(Said {
             message: Err(Why::Avp),

@@ -11,7 +11,8 @@ ghost use Rattle.end_model.specs.Secrets.{has_hidden, uncovered_pairs, uncovered
 
 use avp_codec::{Avp, AvpError, Avps, read_avps, spell_avps};
 use control_message::{spells_what_was_uncovered, uncover};
-use l2tp_header::{Header, read_header, write_control};
+use l2tp_datagram::{Body, Datagram};
+use l2tp_header::{Header, write_control};
 use std::alloc::Global;
 use wire_base::{Bytes, NoMemory};
 
@@ -78,8 +79,8 @@ fn uncover_pairs(
     Ok(Some(plain))
 }
 
-/// A control message with this body.
-fn uncover_body(
+/// A control message with this body, of which a pair is hidden.
+fn uncover_hidden(
     alloc: Global,
     secret: &[u8],
     bytes: &[u8],
@@ -95,24 +96,41 @@ fn uncover_body(
     }
 }
 
+/// A control message with this body. Its pairs are read again only where one of them is hidden.
+fn uncover_body(
+    alloc: Global,
+    secret: &[u8],
+    bytes: &[u8],
+    header: &Header,
+    body: &Body<'_>,
+) -> Result<Option<Bytes>, NoMemory>
+    ensures { IfOk result (λ r. unwrap_or r bytes.now ≡ uncovered_pairs secret.now bytes.now header.now (avps_of body.now)) }
+{
+    match body.pairs() {
+        Ok(avps) => {
+            if !has_hidden(avps.as_slice()) {
+                return Ok(None);
+            }
+            uncover_hidden(alloc, secret, bytes, header, body.as_slice())
+        }
+        Err(AvpError::NoMemory) => Err(NoMemory),
+        Err(_) => Ok(None),
+    }
+}
+
 /// A datagram as an end with a secret reads it.
 #[tactic(auto, unfolding(end_model::specs::Secrets::uncovered_datagram))]
-fn uncover_by(alloc: Global, secret: &[u8], bytes: &[u8]) -> Result<Option<Bytes>, NoMemory>
-    ensures { IfOk result (λ r. unwrap_or r bytes.now ≡ uncovered_datagram (Some secret.now) bytes.now) }
+fn uncover_by(alloc: Global, secret: &[u8], datagram: &Datagram) -> Result<Option<Bytes>, NoMemory>
+    ensures { IfOk result (λ r. unwrap_or r datagram.now ≡ uncovered_datagram (Some secret.now) datagram.now) }
 {
-    let Ok(header) = read_header(bytes) else {
+    let Ok(header) = datagram.header() else {
         return Ok(None);
     };
     if !header.control {
         return Ok(None);
     }
-    uncover_body(
-        alloc,
-        secret,
-        bytes,
-        &header,
-        &bytes[header.start..header.end],
-    )
+    let body = datagram.body(&header);
+    uncover_body(alloc, secret, datagram.as_slice(), &header, &body)
 }
 
 /// A datagram as an end with this secret reads it, None where it is as it came: without a secret, where its header can't be
@@ -123,12 +141,12 @@ fn uncover_by(alloc: Global, secret: &[u8], bytes: &[u8]) -> Result<Option<Bytes
 pub fn uncover_datagram(
     alloc: Global,
     secret: &Option<Bytes>,
-    bytes: &[u8],
+    datagram: &Datagram,
 ) -> Result<Option<Bytes>, NoMemory>
-    ensures { IfOk result (λ r. unwrap_or r bytes.now ≡ uncovered_datagram secret.now bytes.now) }
+    ensures { IfOk result (λ r. unwrap_or r datagram.now ≡ uncovered_datagram secret.now datagram.now) }
 {
     match secret {
         None => Ok(None),
-        Some(secret) => uncover_by(alloc, secret.as_slice(), bytes),
+        Some(secret) => uncover_by(alloc, secret.as_slice(), datagram),
     }
 }

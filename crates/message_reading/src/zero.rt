@@ -4,11 +4,12 @@ ghost use Rattle.std.specs.Prelude.{◌≡◌, Ok, IfOk};
 ghost use Rattle.control_message.specs.Reading.{kind_of_pairs};
 ghost use Rattle.end_model.specs.Reading.{at_zero, zero_pairs, zero_read, zero_faulty, stopped, told_or_none};
 
-use avp_codec::{AvpError, Avps, read_avps};
+use avp_codec::{AvpError, Avps};
 use control_message::{
     Kind, Kinds, Message, MessageError, Read, assigned_tunnel, kind_of_pairs, read_message,
 };
 use end_model::Addressee;
+use l2tp_datagram::Body;
 use std::alloc::Global;
 use wire_base::{NoMemory, Why};
 
@@ -61,11 +62,11 @@ fn zero_pairs(alloc: Global, avps: &Avps) -> Result<Addressee, NoMemory>
 
 /// What a control message at tunnel 0 is for (RFC 2661 section 3.1: its sender doesn't know the other end's id yet).
 #[tactic(auto, unfolding(end_model::specs::Reading::at_zero, end_model::specs::Reading::zero_pairs))]
-pub fn at_zero(alloc: Global, body: &[u8]) -> Result<Addressee, NoMemory>
+pub fn at_zero(alloc: Global, body: &Body<'_>) -> Result<Addressee, NoMemory>
     ensures { IfOk result (λ to. to ≡ at_zero body.now) }
 {
-    match read_avps(alloc, body) {
-        Ok(avps) => zero_pairs(alloc, &avps),
+    match body.pairs() {
+        Ok(avps) => zero_pairs(alloc, avps),
         Err(AvpError::NoMemory) => Err(NoMemory),
         Err(_) => Ok(Addressee::Nobody { why: Why::Avp }),
     }

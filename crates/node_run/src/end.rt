@@ -99,7 +99,7 @@ impl NodeEnd {
         ensures outs { IfOk result (λ outs. outs ≡ outs_of self.old moment block (event_of event)) }
         ensures stopped { IfErr result (λ stop. Halts D.holds D.reach D.calls_left D.faults disk.old disk.new moment block (event_of event) stop self.old self.new) }
     {
-        let event = event_of(event);
+        let event = event_of(alloc, event);
         match self {
             NodeEnd::Lac(lac) => lac_step(alloc, lac, disk, moment, block, &event),
             NodeEnd::Lns(lns) => lns_step(alloc, lns, disk, moment, block, &event),

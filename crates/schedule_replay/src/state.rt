@@ -18,6 +18,7 @@ use crate::tables::{push_agreement_table, push_end_table};
 use byteorder::{BigEndian, ByteOrder};
 use end_model::{Event, Move, Origin, Out, Role, address_of, node_of};
 use id_table::Table;
+use l2tp_datagram::Datagram;
 use report_text::{
     push_cause, push_drop, push_farewell, push_frame, push_gone, push_send, push_stopped, push_up,
     too_old,
@@ -469,13 +470,13 @@ impl State {
             Ok(found) => found,
             Err(why) => return Err(LineFault::unfit(why)),
         };
-        if let Some(refusal) = refused_by(packet, addressee)? {
+        let datagram = copy_of(self.alloc, packet)?;
+        if let Some(refusal) = refused_by(packet, &datagram, addressee)? {
             return Err(LineFault::Refused { refusal });
         }
         let node = packet.to;
         let peer = address_of(packet.from);
-        let bytes = Bytes::from_slice(self.alloc, packet.bytes.as_slice())?;
-        self.step(line, node, &Event::Datagram { peer, bytes })
+        self.step(line, node, &Event::Datagram { peer, datagram })
     }
 
     /// A node's clock goes on by so many milliseconds, and it ticks.
@@ -637,17 +638,27 @@ fn count_lines(table: &[u8]) -> u64
     table.iter().filter(|byte| **byte == b'\n').count() as u64
 }
 
+/// A packet's datagram, which is read here, once.
+fn copy_of(alloc: Global, packet: &Packet) -> Result<Datagram, NoMemory>
+    ensures { IfOk result (λ datagram. datagram ≡ packet.now.bytes) }
+{
+    let bytes = Bytes::from_slice(alloc, packet.bytes.as_slice())?;
+    Ok(Datagram::read(alloc, bytes))
+}
+
 /// Why a packet is refused by the node that it is for, if it is.
 #[tactic(auto, unfolding(world_model::specs::World::refused_by))]
-fn refused_by(packet: &Packet, node: &Node) -> Result<Option<Refusal>, NoMemory>
+fn refused_by(
+    packet: &Packet,
+    datagram: &Datagram,
+    node: &Node,
+) -> Result<Option<Refusal>, NoMemory>
+    requires { datagram.now ≡ packet.now.bytes }
     ensures { IfOk result (λ r. r ≡ refused_by packet.now node.now packet.now.origin) }
 {
     match &packet.origin {
         Origin::Control(origin) => {
-            let reached = node
-                .end
-                .end()
-                .reached(address_of(packet.from), packet.bytes.as_slice())?;
+            let reached = node.end.end().reached(address_of(packet.from), datagram)?;
             Ok(too_old(origin, reached))
         }
         Origin::Data { .. } => Ok(None),

@@ -4,6 +4,7 @@ use crate::sites::{LacSite, LnsSite, started_lac, started_lns, wanting};
 use disk_core::{Disk, MemoryDisk, StopDisk};
 use end_model::{Event, Out, address_of};
 use end_store::StoreStop;
+use l2tp_datagram::Datagram;
 use std::alloc::Global;
 use std::mem;
 use wire_base::{Bytes, Sequence};
@@ -31,9 +32,10 @@ fn push_sent(
 
 /// That a datagram comes from a node.
 fn coming(alloc: Global, node: u8, bytes: &Bytes) -> Result<Event, StoreStop> {
+    let bytes = Bytes::from_slice(alloc, bytes.as_slice()).map_err(wanting)?;
     Ok(Event::Datagram {
         peer: address_of(node),
-        bytes: Bytes::from_slice(alloc, bytes.as_slice()).map_err(wanting)?,
+        datagram: Datagram::read(alloc, bytes),
     })
 }
 

@@ -47,8 +47,8 @@ pub(crate) fn run(
     ensures { OnOk result (turn.new ≡ turns role config.now letters.now.letters calls.now.entries event.now turn.old) }
 {
     match event {
-        Event::Datagram { bytes, .. } => {
-            hear_datagram(turn, role, config, letters, calls, bytes.as_slice())
+        Event::Datagram { datagram, .. } => {
+            hear_datagram(turn, role, config, letters, calls, datagram)
         }
         Event::Ring { port } => {
             ring(turn, role, config, calls, subscriber(*port))?;

@@ -18,7 +18,8 @@ use crate::told::Told;
 use crate::turn::Turn;
 use control_message::{Message, Opening};
 use end_model::{Config, Role};
-use l2tp_header::{Header, read_header};
+use l2tp_datagram::{Body, Datagram};
+use l2tp_header::Header;
 use message_reading::{
     Reason, Said, connected_event, connected_reason, event_by, no_outgoing, opening_reason,
     out_of_order, read_body,
@@ -268,7 +269,7 @@ fn hear_next(
     config: &Config,
     calls: &TunnelCalls,
     session: u16,
-    body: &[u8],
+    body: &Body<'_>,
 ) -> Result<(), NoMemory>
     ensures { OnOk result (turn.new ≡ hears_next role config.now calls.now.entries session body.now turn.old) }
 {
@@ -288,7 +289,7 @@ fn hear_class(
     config: &Config,
     calls: &TunnelCalls,
     session: u16,
-    body: &[u8],
+    body: &Body<'_>,
     class: Option<Class>,
 ) -> Result<(), NoMemory>
     ensures { OnOk result (turn.new ≡ hears_letter role config.now calls.now.entries session body.now class turn.old) }
@@ -314,7 +315,7 @@ fn hear_in_tunnel(
     letters: &Letters,
     calls: &TunnelCalls,
     session: u16,
-    body: &[u8],
+    body: &Body<'_>,
     class: Option<Class>,
 ) -> Result<(), NoMemory>
     ensures { OnOk result (turn.new ≡ in_tunnel role config.now letters.now.letters calls.now.entries session body.now class turn.old) }
@@ -348,7 +349,7 @@ fn hear_control(
     letters: &Letters,
     calls: &TunnelCalls,
     header: &Header,
-    body: &[u8],
+    body: &Body<'_>,
 ) -> Result<(), NoMemory>
     ensures { OnOk result (turn.new ≡ hears_control role config.now letters.now.letters calls.now.entries header.now body.now turn.old) }
 {
@@ -379,18 +380,18 @@ pub(crate) fn hear_datagram(
     config: &Config,
     letters: &Letters,
     calls: &TunnelCalls,
-    bytes: &[u8],
+    datagram: &Datagram,
 ) -> Result<(), NoMemory>
-    ensures { OnOk result (turn.new ≡ hears_datagram role config.now letters.now.letters calls.now.entries bytes.now (header_of bytes.now) turn.old) }
+    ensures { OnOk result (turn.new ≡ hears_datagram role config.now letters.now.letters calls.now.entries datagram.now (header_of datagram.now) turn.old) }
 {
-    match read_header(bytes) {
+    match datagram.header() {
         Err(error) => turn.drop_with(header_why(error)),
         Ok(header) => {
             if !header.control {
                 return turn.drop_with(Why::Session);
             }
-            let body = &bytes[header.start..header.end];
-            hear_control(turn, role, config, letters, calls, &header, body)
+            let body = datagram.body(&header);
+            hear_control(turn, role, config, letters, calls, &header, &body)
         }
     }
 }

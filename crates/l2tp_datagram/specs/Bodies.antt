@@ -1,0 +1,25 @@
+-- The body of a control message, with the pairs that it spells.
+use Rattle.std.specs.Prelude.{◌≡◌, ℕ, ◌-◌, ◌≤◌, true, List, take, drop, length, Result, Ok, Err, IfOk}
+use Rattle.wire_base.specs.Answers.{Gives}
+use Rattle.avp_codec.specs.declared.avp.Avp.{Avp}
+use Rattle.avp_codec.specs.declared.error.AvpError.{AvpError}
+use Rattle.avp_codec.specs.Reading.{avps_of, Told}
+use Rattle.l2tp_header.specs.declared.header.Header.{Header}
+use Rattle.l2tp_header.specs.declared.header.HeaderError.{HeaderError}
+
+-- the bytes between the header and the end that it tells
+abbrev pub body_in : Header → List ℕ → List ℕ
+body_in h bytes = take (h.end - h.start) (drop h.start bytes)
+
+-- a body's pairs as they were read: those that it spells, or their first fault, or that memory was wanting
+abbrev pub AreRead : List ℕ → Result (List Avp) AvpError → Type 0
+AreRead body pairs = Gives Told (λ v. v) pairs (avps_of body)
+
+-- those of a control message
+abbrev pub AreReadOf : List ℕ → Result Header HeaderError → Result (List Avp) AvpError → Type 0
+AreReadOf bytes (Ok h) pairs = h.control ≡ true → AreRead (body_in h bytes) pairs
+AreReadOf bytes (Err e) pairs = Unit {0}
+
+-- the body lies in the datagram
+abbrev pub LiesInside : List ℕ → Result Header HeaderError → Type 0
+LiesInside bytes header = IfOk header (λ h. (h.start ≤ h.end) × (h.end ≤ length bytes))

@@ -1,0 +1,131 @@
+//! A datagram with what stands at its front: its header is read once, and so are the pairs of a control message.
+#![tactic(auto)]
+
+ghost use Rattle.std.specs.Prelude.{◌≡◌, true, length, Ok, nat_eq};
+ghost use Rattle.l2tp_header.specs.Reading.{header_of};
+ghost use Rattle.l2tp_datagram.specs.Bodies.{body_in, AreRead, AreReadOf, LiesInside};
+
+use avp_codec::{AvpError, Avps, read_avps};
+use l2tp_header::{Header, HeaderError, read_header};
+use std::alloc::Global;
+use std::marker::Model;
+use wire_base::Bytes;
+
+/// A datagram, seen as its bytes. Beside them stand its header and its pairs (RFC 2661 sections 3.1 and 4.1), as they were read.
+#[derive(Drop)]
+pub struct Datagram {
+    bytes: Bytes,
+    header: Result<Header, HeaderError>,
+    pairs: Result<Avps, AvpError>,
+}
+
+impl Model for Datagram {
+    ghost use Rattle.std.specs.Prelude.{◌≡◌, ℕ, List};
+    ghost use Rattle.l2tp_header.specs.Reading.{header_of};
+    ghost use Rattle.l2tp_datagram.specs.Bodies.{AreReadOf, LiesInside};
+
+    ghost Value = { List ℕ };
+
+    ghost view = { λ d. d.bytes };
+
+    ghost invariant = { λ d. (d.header ≡ header_of d.bytes) × AreReadOf d.bytes d.header d.pairs × LiesInside d.bytes d.header };
+}
+
+/// The body of a control message, seen as its bytes, with its pairs.
+#[derive(Drop)]
+pub struct Body<'a> {
+    bytes: &'a [u8],
+    pairs: &'a Result<Avps, AvpError>,
+}
+
+impl<'a> Model for Body<'a> {
+    ghost use Rattle.std.specs.Prelude.{ℕ, List};
+    ghost use Rattle.l2tp_datagram.specs.Bodies.{AreRead};
+
+    ghost Value = { List ℕ };
+
+    ghost view = { λ b. b.bytes.now };
+
+    ghost invariant = { λ b. AreRead b.bytes.now b.pairs.now };
+}
+
+/// The pairs of a datagram with this header.
+fn pairs_in(
+    alloc: Global,
+    bytes: &[u8],
+    header: &Result<Header, HeaderError>,
+) -> Result<Avps, AvpError>
+    requires { LiesInside bytes.now header.now }
+    ensures { AreReadOf bytes.now header.now result }
+{
+    match header {
+        Ok(header) if header.control => read_avps(alloc, &bytes[header.start..header.end]),
+        _ => Ok(Avps::new(alloc)),
+    }
+}
+
+impl Datagram {
+    /// Reads the header of a datagram, and the pairs of a control message. What is wrong with them, and that memory was wanting for the
+    /// pairs, is told where they are asked for.
+    pub fn read(alloc: Global, bytes: Bytes) -> Datagram
+        ensures { result ≡ bytes }
+    {
+        let header = read_header(bytes.as_slice());
+        let pairs = pairs_in(alloc, bytes.as_slice(), &header);
+        Datagram {
+            bytes,
+            header,
+            pairs,
+        }
+    }
+
+    /// All of it.
+    pub fn as_slice(&self) -> &[u8]
+        ensures { result.now ≡ self.now }
+    {
+        self.bytes.as_slice()
+    }
+
+    /// Its header, or the first fault of it.
+    pub fn header(&self) -> Result<Header, HeaderError>
+        ensures value { result ≡ header_of self.now }
+        ensures inside { LiesInside self.now result }
+    {
+        self.header
+    }
+
+    /// The body of a control message with this header.
+    pub fn body(&self, header: &Header) -> Body<'_>
+        requires header { header_of self.now ≡ Ok header.now }
+        requires control { header.now.control ≡ true }
+        ensures { result ≡ body_in header.now self.now }
+    {
+        Body {
+            bytes: &self.bytes.as_slice()[header.start..header.end],
+            pairs: &self.pairs,
+        }
+    }
+}
+
+impl<'a> Body<'a> {
+    /// Its bytes.
+    pub fn as_slice(&self) -> &[u8]
+        ensures { result.now ≡ self.now }
+    {
+        self.bytes
+    }
+
+    /// Whether it has none: the message is an acknowledgement alone.
+    pub fn is_empty(&self) -> bool
+        ensures { result ≡ nat_eq (length self.now) 0 }
+    {
+        self.bytes.is_empty()
+    }
+
+    /// The pairs that it spells, or the first fault of them, or that memory was wanting as it was read.
+    pub fn pairs(&self) -> &Result<Avps, AvpError>
+        ensures { AreRead self.now result.now }
+    {
+        self.pairs
+    }
+}
