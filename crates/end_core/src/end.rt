@@ -564,7 +564,7 @@ impl End {
         ensures { IfOk result (λ to. to ≡ addressed self.now peer header.now body.now) }
     {
         if header.tunnel == 0 {
-            let to = at_zero(self.alloc, body)?;
+            let to = at_zero(body)?;
             return self.open_once(peer, to);
         }
         let tunnel = u32::from(header.tunnel);

@@ -1,16 +1,12 @@
 //! What a control message is for that names no tunnel.
 
 ghost use Rattle.std.specs.Prelude.{◌≡◌, Ok, IfOk};
-ghost use Rattle.control_message.specs.Reading.{kind_of_pairs};
-ghost use Rattle.end_model.specs.Reading.{at_zero, zero_pairs, zero_read, zero_faulty, stopped, told_or_none};
+ghost use Rattle.end_model.specs.Reading.{at_zero, zero_pairs, stopped};
 
 use avp_codec::{AvpError, Avps};
-use control_message::{
-    Kind, Kinds, Message, MessageError, Read, assigned_tunnel, kind_of_pairs, read_message,
-};
+use control_message::{Kind, Kinds, assigned_tunnel, kind_of_pairs};
 use end_model::Addressee;
 use l2tp_datagram::Body;
-use std::alloc::Global;
 use wire_base::{NoMemory, Why};
 
 /// A StopCCN is for the tunnel whose id it tells; one that tells none, or 0, is for none.
@@ -23,9 +19,10 @@ fn stopped(told: Option<u16>) -> Addressee
     }
 }
 
-/// What a faulty message at tunnel 0 is for, by its kind.
-fn zero_faulty(avps: &Avps) -> Addressee
-    ensures { result ≡ zero_faulty (kind_of_pairs avps.now) avps.now }
+/// What a message at tunnel 0 is for, by its kind and by the tunnel id that its pairs tell. Whether they have a fault changes nothing.
+#[tactic(auto, using(crate::proofs::Tunnels::zero_is), unfolding(end_model::specs::Reading::zero_pairs))]
+fn zero_pairs(avps: &Avps) -> Addressee
+    ensures { result ≡ zero_pairs (Ok avps.now) }
 {
     match kind_of_pairs(avps, Kinds::Base) {
         Some(Kind::Sccrq) => match assigned_tunnel(avps) {
@@ -41,32 +38,13 @@ fn zero_faulty(avps: &Avps) -> Addressee
     }
 }
 
-/// What a message at tunnel 0 is for, by its pairs.
-#[tactic(auto, unfolding(end_model::specs::Reading::zero_pairs, end_model::specs::Reading::zero_read))]
-fn zero_pairs(alloc: Global, avps: &Avps) -> Result<Addressee, NoMemory>
-    ensures { IfOk result (λ to. to ≡ zero_pairs (Ok avps.now)) }
-{
-    match read_message(alloc, avps, None, Kinds::Base) {
-        Ok(Read::Known(Message::Sccrq(opening))) => Ok(Addressee::Opens {
-            remote: opening.tunnel,
-        }),
-        Ok(Read::Known(Message::Sccrp(opening))) => Ok(Addressee::Answers {
-            remote: opening.tunnel,
-        }),
-        Ok(Read::Known(Message::StopCcn { tunnel, .. })) => Ok(stopped(Some(tunnel))),
-        Ok(_) => Ok(Addressee::Nobody { why: Why::Tunnel }),
-        Err(MessageError::NoMemory) => Err(NoMemory),
-        Err(_) => Ok(zero_faulty(avps)),
-    }
-}
-
 /// What a control message at tunnel 0 is for (RFC 2661 section 3.1: its sender doesn't know the other end's id yet).
 #[tactic(auto, unfolding(end_model::specs::Reading::at_zero, end_model::specs::Reading::zero_pairs))]
-pub fn at_zero(alloc: Global, body: &Body<'_>) -> Result<Addressee, NoMemory>
+pub fn at_zero(body: &Body<'_>) -> Result<Addressee, NoMemory>
     ensures { IfOk result (λ to. to ≡ at_zero body.now) }
 {
     match body.pairs() {
-        Ok(avps) => zero_pairs(alloc, avps),
+        Ok(avps) => Ok(zero_pairs(avps)),
         Err(AvpError::NoMemory) => Err(NoMemory),
         Err(_) => Ok(Addressee::Nobody { why: Why::Avp }),
     }
