@@ -26,7 +26,7 @@ pub enum Exit {
     WriteFault,
     /// The text passes a limit; so many lines are begun there.
     TooLong { lines: u64 },
-    /// Memory was wanting.
+    /// Memory was wanting, or a node's disk had another number of records behind a stop than was due.
     NoMemory,
 }
 

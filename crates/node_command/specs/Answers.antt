@@ -1,4 +1,4 @@
--- How `node` and `pool` end.
+-- How `pool` ends.
 use Rattle.std.specs.Prelude.{◌≡◌, ◌⊎◌, ◌||◌, ℕ, List, drop, codes, String, string_bytes, Bool, true, false}
 use Rattle.std.specs.List.{list_any}
 use Rattle.std.specs.Str.{bytes_eq}

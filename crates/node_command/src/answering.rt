@@ -1,9 +1,9 @@
-//! Answers to the words of `node` and `pool`.
+//! Answers to the words of `pool`.
 
 ghost use Rattle.std.specs.Prelude.{◌≡◌, false};
 ghost use Rattle.node_command.specs.Answers.{asks, answered_by, Answers, Writes};
 
-use node_words::{NODE_HELP, POOL_HELP, PlanError, asks_for_help, asks_for_version, read_plan};
+use node_words::{POOL_HELP, PlanError, asks_for_help, asks_for_version, read_plan};
 use port_traits::{Sink, write_all};
 use std::alloc::Global;
 
@@ -20,33 +20,9 @@ pub enum Answered {
     NoMemory,
 }
 
-/// Whether the words name `pool`, and not `node`.
-fn is_pool(words: &[String]) -> bool {
-    match words.first() {
-        Some(word) => word.as_str() == "pool",
-        None => false,
-    }
-}
+const USAGE: &[u8] = b"usage: l2tp pool\n";
 
-fn help(pool: bool) -> &'static str {
-    if pool { POOL_HELP } else { NODE_HELP }
-}
-
-fn usage(pool: bool) -> &'static [u8] {
-    if pool {
-        b"usage: l2tp pool\n"
-    } else {
-        b"usage: l2tp node\n"
-    }
-}
-
-fn unbuilt(pool: bool) -> &'static [u8] {
-    if pool {
-        b"l2tp pool isn't built yet\n"
-    } else {
-        b"l2tp node isn't built yet\n"
-    }
-}
+const UNBUILT: &[u8] = b"l2tp pool isn't built yet\n";
 
 /// Writes a text, and gives the answer that goes with it, or a write fault.
 fn tell<K: Sink>(sink: &mut K, text: &[u8], answered: Answered) -> Answered
@@ -59,10 +35,10 @@ fn tell<K: Sink>(sink: &mut K, text: &[u8], answered: Answered) -> Answered
 }
 
 /// Tells that the command can't be run yet, as far as that can be told.
-fn warn<E: Sink>(err: &mut E, pool: bool) -> Answered
+fn warn<E: Sink>(err: &mut E) -> Answered
     ensures { result ≡ Answered.Usage }
 {
-    match write_all(err, unbuilt(pool)) {
+    match write_all(err, UNBUILT) {
         Ok(()) => Answered::Usage,
         Err(_) => Answered::Usage,
     }
@@ -78,15 +54,15 @@ fn answer_to_plan<K: Sink, E: Sink>(
     ensures { Answers false result (K.faults out.old) (K.faults out.new) }
 {
     match read_plan(alloc, words) {
-        Ok(_) => warn(err, is_pool(words)),
-        Err(PlanError::Usage) => tell(out, usage(is_pool(words)), Answered::Usage),
+        Ok(_) => warn(err),
+        Err(PlanError::Usage) => tell(out, USAGE, Answered::Usage),
         Err(PlanError::NoMemory) => Answered::NoMemory,
     }
 }
 
-/// Answers the words of `node` and `pool`, of which the first is the command. With `--help` or `--version` among those behind it the
-/// command's help, or the version, is written. Words that are no plan have how the command is used written. Of a plan it is told on the
-/// second sink, in one line, that the command can't be run yet.
+/// Answers the words of `pool`, of which the first is the command. With `--help` or `--version` among those behind it the command's help, or
+/// the version, is written. Words that are no plan have how the command is used written. Of a plan it is told on the second sink, in one
+/// line, that the command can't be run yet.
 pub fn answer_words<K: Sink, E: Sink>(
     alloc: Global,
     words: &[String],
@@ -97,7 +73,7 @@ pub fn answer_words<K: Sink, E: Sink>(
     ensures { Answers (asks words.now) result (K.faults out.old) (K.faults out.new) }
 {
     if asks_for_help(words) {
-        return tell(out, help(is_pool(words)).as_bytes(), Answered::Told);
+        return tell(out, POOL_HELP.as_bytes(), Answered::Told);
     }
     if asks_for_version(words) {
         return tell(out, version, Answered::Told);

@@ -15,7 +15,7 @@ use Rattle.schedule_replay.specs.declared.kinds.Moved.{Moved}
 use Rattle.schedule_replay.specs.declared.node.Unmade.{Unmade}
 use Rattle.schedule_replay.specs.declared.node.Unmade.TheVariants as unmade
 use Rattle.schedule_replay.specs.Kinds.{Site, site_in}
-use Rattle.schedule_replay.specs.Serving.{SiteStep, site_contents, GivesSite, IsLeft, MakesStep}
+use Rattle.schedule_replay.specs.Serving.{SiteStep, site_contents, GivesSite, IsLeft, IsAsBefore, MakesStep}
 use Rattle.schedule_replay.proofs.Keeps.{who}
 
 -- how a checkpoint is committed to
@@ -45,11 +45,32 @@ module _ (block : List ℕ) (x : Node) (v : SiteStep) (after : Checkpoint) where
       let config : v.site.end.config ≡ x.end.config = ap (λ (p : Role × Config). p.1) keeps in
       (after, committed, left ∙ rw (is, role, config) refl)
   step_left unmade.Cut (fault.Uncommitted stop.NoMemory) up mid new keeps committed is left = absurd left
+  step_left unmade.Cut (fault.Uncommitted stop.Differs) up mid new keeps committed is left = absurd left
   step_left unmade.Cut (fault.Uncommitted (stop.Full records)) up mid new keeps committed is left = absurd left
   step_left unmade.Cut fault.NoMemory up mid new keeps committed is left = absurd left
   step_left (unmade.Full records) (fault.Uncommitted (stop.Full told)) up mid new keeps committed is left =
       rw left.0 committed.0
   step_left (unmade.Full records) (fault.Uncommitted stop.NoMemory) up mid new keeps committed is left = absurd left
+  step_left (unmade.Full records) (fault.Uncommitted stop.Differs) up mid new keeps committed is left = absurd left
   step_left (unmade.Full records) (fault.Uncommitted stop.Cut) up mid new keeps committed is left = absurd left
   step_left (unmade.Full records) fault.NoMemory up mid new keeps committed is left = absurd left
   step_left unmade.NoMemory f up mid new keeps committed is left = tt
+
+-- what a node that didn't fall is behind a step that wasn't made
+module _ (block : List ℕ) (x : Node) (rs : List Record) (after : Checkpoint) where
+  as_it_was : (mid new : Node) → mid ≡ record x { checkpoint = after } → after ≡ x.checkpoint → new ≡ mid → new ≡ x
+  as_it_was mid new is same left = left ∙ is ∙ ap (λ (k : Checkpoint). record x { checkpoint = k }) same
+
+  pub left_as_before : (u : Unmade) (f : StepFault CommitStop) (mid new : Node) → Commits {T = Moved} committing (Err f) rs x.checkpoint after
+      → mid ≡ record x { checkpoint = after } → IsLeft u f block mid new → IsAsBefore {T = Moved} (Err u) x new
+  left_as_before unmade.Cut f mid new committed is left = tt
+  left_as_before (unmade.Full records) (fault.Uncommitted (stop.Full told)) mid new committed is left = as_it_was mid new is committed.1 left.1
+  left_as_before (unmade.Full records) (fault.Uncommitted stop.NoMemory) mid new committed is left = absurd left
+  left_as_before (unmade.Full records) (fault.Uncommitted stop.Differs) mid new committed is left = absurd left
+  left_as_before (unmade.Full records) (fault.Uncommitted stop.Cut) mid new committed is left = absurd left
+  left_as_before (unmade.Full records) fault.NoMemory mid new committed is left = absurd left
+  left_as_before unmade.NoMemory (fault.Uncommitted stop.NoMemory) mid new committed is left = as_it_was mid new is committed left
+  left_as_before unmade.NoMemory (fault.Uncommitted stop.Differs) mid new committed is left = as_it_was mid new is committed.1 left
+  left_as_before unmade.NoMemory (fault.Uncommitted (stop.Full records)) mid new committed is left = absurd left
+  left_as_before unmade.NoMemory (fault.Uncommitted stop.Cut) mid new committed is left = absurd left
+  left_as_before unmade.NoMemory fault.NoMemory mid new committed is left = as_it_was mid new is committed left

@@ -86,17 +86,30 @@ after_site x v k = record x { end = v.site.end; access = v.site.access; checkpoi
 abbrev pub fallen_site : List ℕ → Node → SiteStep → Checkpoint → Node
 fallen_site block x v k = fallen block (record x { end = v.site.end }) k
 
--- why a node's step wasn't made, by the fault of its end's: where a stop cut it off, the node fell
+-- why a node's step wasn't made, by the fault of its end's: where a stop cut it off, the node fell, and it is as before otherwise
 abbrev pub IsLeft : Unmade → StepFault CommitStop → List ℕ → Node → Node → Type 0
 IsLeft unmade.Cut (fault.Uncommitted stop.Cut) block old new = new ≡ fallen block old old.checkpoint
 IsLeft unmade.Cut (fault.Uncommitted stop.NoMemory) block old new = ⊥
+IsLeft unmade.Cut (fault.Uncommitted stop.Differs) block old new = ⊥
 IsLeft unmade.Cut (fault.Uncommitted (stop.Full records)) block old new = ⊥
 IsLeft unmade.Cut fault.NoMemory block old new = ⊥
 IsLeft (unmade.Full records) (fault.Uncommitted (stop.Full told)) block old new = (records ≡ told) × (new ≡ old)
 IsLeft (unmade.Full records) (fault.Uncommitted stop.NoMemory) block old new = ⊥
+IsLeft (unmade.Full records) (fault.Uncommitted stop.Differs) block old new = ⊥
 IsLeft (unmade.Full records) (fault.Uncommitted stop.Cut) block old new = ⊥
 IsLeft (unmade.Full records) fault.NoMemory block old new = ⊥
-IsLeft unmade.NoMemory f block old new = Unit {0}
+IsLeft unmade.NoMemory (fault.Uncommitted stop.NoMemory) block old new = new ≡ old
+IsLeft unmade.NoMemory (fault.Uncommitted stop.Differs) block old new = new ≡ old
+IsLeft unmade.NoMemory (fault.Uncommitted (stop.Full records)) block old new = ⊥
+IsLeft unmade.NoMemory (fault.Uncommitted stop.Cut) block old new = ⊥
+IsLeft unmade.NoMemory fault.NoMemory block old new = new ≡ old
+
+-- where a step wasn't made, and no stop cut it off, the node is as before
+abbrev pub IsAsBefore : {T : Type 0} → Result T Unmade → Node → Node → Type 0
+IsAsBefore (Ok x) old new = Unit {0}
+IsAsBefore (Err unmade.Cut) old new = Unit {0}
+IsAsBefore (Err (unmade.Full records)) old new = new ≡ old
+IsAsBefore (Err unmade.NoMemory) old new = new ≡ old
 
 -- a node's step is this, as far as memory sufficed
 abbrev pub MakesStep : Result Moved Unmade → List ℕ → SiteStep → Node → Node → Type 0

@@ -9,7 +9,7 @@ pub enum LineFault {
     /// The line is refused. The world is as before; of one that found no room for records the report is, and it answers want of memory from
     /// then on.
     Refused { refusal: Refusal },
-    /// Memory was wanting. The world answers so from then on.
+    /// Memory was wanting, or a node's disk had another number of records behind a stop than was due. The world answers so from then on.
     NoMemory,
 }
 

@@ -1,6 +1,6 @@
 //! A node of the world.
 
-ghost use Rattle.std.specs.Prelude.{◌≡◌, ◌+◌, ◌-◌, ◌^◌, min, [], OnOk, IfOk, IfSome, Ok, Some, true};
+ghost use Rattle.std.specs.Prelude.{◌≡◌, ◌+◌, ◌-◌, ◌^◌, min, [], OnOk, IfOk, Ok, Some, true};
 ghost use Rattle.id_table.specs.Ids.{put};
 ghost use Rattle.end_model.specs.Calls.{is_lac};
 ghost use Rattle.end_model.specs.Access.{access_with};
@@ -8,7 +8,7 @@ ghost use Rattle.end_model.specs.End.{new_end};
 ghost use Rattle.world_model.specs.World.{config_of, count_at, new_checkpoint, with_stop, fallen};
 ghost use Rattle.world_checkpoint.specs.Stores.{OpensTo};
 ghost use Rattle.schedule_replay.specs.Kinds.{site_in};
-ghost use Rattle.schedule_replay.specs.Serving.{site_step, site_start, IsLeft, MakesStep};
+ghost use Rattle.schedule_replay.specs.Serving.{site_step, site_start, IsLeft, IsAsBefore, MakesStep};
 
 use crate::kinds::{Moved, NodeEnd};
 use end_model::{Config, Event, Role, address_of};
@@ -27,7 +27,7 @@ pub(crate) enum Unmade {
     Cut,
     /// The checkpoint has so many records, and no room for those of the step. The node is as before.
     Full { records: u32 },
-    /// Memory was wanting.
+    /// Memory was wanting, or the node's disk had another number of records behind a stop than was due. The node is as before.
     NoMemory,
 }
 
@@ -125,9 +125,10 @@ impl Node {
 
     /// A step of the node's end on an event, at the moment of its clock, with a block of random bytes. All that it leaves is committed before
     /// it is made.
-    #[tactic(auto, using(crate::proofs::Nodes::step_made, crate::proofs::Nodes::step_left))]
+    #[tactic(auto, using(crate::proofs::Nodes::step_made, crate::proofs::Nodes::step_left, crate::proofs::Nodes::left_as_before))]
     pub(crate) fn step(&mut self, block: [u8; 16], event: &Event) -> Result<Moved, Unmade>
-        ensures { MakesStep result block (site_step (site_in self.old) self.old.clock block event.now) self.old self.new }
+        ensures made { MakesStep result block (site_step (site_in self.old) self.old.clock block event.now) self.old self.new }
+        ensures as_before { IsAsBefore result self.old self.new }
     {
         match self
             .end
@@ -138,7 +139,7 @@ impl Node {
         }
     }
 
-    /// What is left where a step wasn't made, and why: where a stop cut it off, the node falls.
+    /// What is left where a step wasn't made, and why: where a stop cut it off, the node falls, and it is as before otherwise.
     fn leave(&mut self, block: [u8; 16], fault: StepFault<CommitStop>) -> Unmade
         ensures { IsLeft result fault block self.old self.new }
     {
@@ -152,7 +153,10 @@ impl Node {
                 self.fall(block);
                 Unmade::Cut
             }
-            _ => Unmade::NoMemory,
+            StepFault::NoMemory
+            | StepFault::Uncommitted {
+                stop: CommitStop::NoMemory | CommitStop::Differs,
+            } => Unmade::NoMemory,
         }
     }
 
@@ -167,9 +171,10 @@ impl Node {
     }
 
     /// The node starts over its checkpoint.
-    #[tactic(auto, using(crate::proofs::Nodes::step_made, crate::proofs::Nodes::step_left))]
+    #[tactic(auto, using(crate::proofs::Nodes::step_made, crate::proofs::Nodes::step_left, crate::proofs::Nodes::left_as_before))]
     pub(crate) fn start(&mut self, block: [u8; 16]) -> Result<Moved, Unmade>
-        ensures { MakesStep result block (site_start self.old.end.role self.old.end.config block self.old.checkpoint.book) (record self.old { up = true }) self.new }
+        ensures made { MakesStep result block (site_start self.old.end.role self.old.end.config block self.old.checkpoint.book) (record self.old { up = true }) self.new }
+        ensures as_before { IsAsBefore result self.old self.new }
     {
         match self.end.start(&mut self.checkpoint, block) {
             Ok(moved) => {
@@ -180,9 +185,9 @@ impl Node {
         }
     }
 
-    /// What the node's disk holds, None where memory was wanting.
-    pub(crate) fn file(&self) -> Option<&[u8]>
-        ensures { IfSome result (λ file. OpensTo self.now.checkpoint.book file.now) }
+    /// What the node's disk holds.
+    pub(crate) fn file(&self) -> &[u8]
+        ensures { OpensTo self.now.checkpoint.book result.now }
     {
         self.checkpoint.file()
     }

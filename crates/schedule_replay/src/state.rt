@@ -1,6 +1,6 @@
 //! The world's state, and what a line does to it.
 
-ghost use Rattle.std.specs.Prelude.{◌≡◌, ◌==◌, [], ◌∷◌, ◌++◌, ◌+◌, length, true, false, count_by, OnOk, IfOk, IfSome, MatchResult, IsSome, IsOk, slice_get, Ok, Err, None, Some, Option};
+ghost use Rattle.std.specs.Prelude.{◌≡◌, ◌==◌, [], ◌∷◌, ◌++◌, ◌+◌, length, true, false, count_by, OnOk, IfOk, IfSome, MatchResult, IsSome, is_some, IsOk, slice_get, Ok, Err, None, Some, Option};
 ghost use Rattle.id_table.specs.Ids.{at};
 ghost use Rattle.world_model.specs.Texts.{send_text, entry_text, entries_text};
 ghost use Rattle.world_model.specs.World.{sent, birth_of, with_birth, is_born, moved, moved_all, shown, shown_all, entry_of, entries_of, declared, lac_at, lns_at, down_at, with_call, with_tunnel, later, added, block_of, stepped, arrival, refused_by, delivers, farewell_in, framed, crashed, armed, started, line as line_of};
@@ -510,12 +510,13 @@ impl State {
         Ok(())
     }
 
-    /// What the disk of a node holds, None where it isn't declared, or memory was wanting.
+    /// What the disk of a node holds, None where it isn't declared.
     pub(crate) fn file(&self, node: u8) -> Option<&[u8]>
-        ensures { IfSome result (λ file. IfSome (at self.now.world.nodes node) (λ x. OpensTo x.checkpoint.book file.now)) }
+        ensures declared { is_some result ≡ is_some (at self.now.world.nodes node) }
+        ensures opens { IfSome result (λ file. IfSome (at self.now.world.nodes node) (λ x. OpensTo x.checkpoint.book file.now)) }
     {
         match self.nodes.get(u32::from(node)) {
-            Some(at) => at.file(),
+            Some(at) => Some(at.file()),
             None => None,
         }
     }

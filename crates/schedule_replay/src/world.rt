@@ -1,6 +1,6 @@
 //! The world.
 
-ghost use Rattle.std.specs.Prelude.{◌≡◌, length, IfOk, IfSome};
+ghost use Rattle.std.specs.Prelude.{◌≡◌, length, is_some, IfOk, IfSome};
 ghost use Rattle.id_table.specs.Ids.{at};
 ghost use Rattle.world_model.specs.World.{line as line_of};
 ghost use Rattle.world_checkpoint.specs.Stores.{OpensTo};
@@ -97,10 +97,11 @@ impl World {
         self.state.ups()
     }
 
-    /// What the disk of a node holds, None where it isn't declared, or memory was wanting. Opened as the journal of that node it has the
-    /// book of the node's checkpoint.
+    /// What the disk of a node holds, None where it isn't declared. Opened as the journal of that node it has the book of the node's
+    /// checkpoint.
     pub fn file(&self, node: u8) -> Option<&[u8]>
-        ensures { IfSome result (λ file. IfSome (at self.now.told.world.nodes node) (λ x. OpensTo x.checkpoint.book file.now)) }
+        ensures declared { is_some result ≡ is_some (at self.now.told.world.nodes node) }
+        ensures opens { IfSome result (λ file. IfSome (at self.now.told.world.nodes node) (λ x. OpensTo x.checkpoint.book file.now)) }
     {
         self.state.file(node)
     }

@@ -1,6 +1,6 @@
 -- Records that are committed to a store, as the definitions count them.
 use Rattle.std.proofs.Common.{◌≡◌, ℕ, ◌+◌, ◌-◌, ◌<◌, ◌≤◌, Bool, true, false, cond, List, [], ◌∷◌, ◌++◌, length, take, drop, Option, Some, None, Ok, Err, refl, sym, ap, subst, ◌∙◌, arith}
-use Rattle.std.specs.Prelude.{⊤, nat_le, nat_lt, Result, OnOk, is_err}
+use Rattle.std.specs.Prelude.{⊤, nat_le, nat_lt, Result}
 use Rattle.std.proofs.lemmas.Bool.Decides.{nat_tests}
 use Rattle.std.proofs.lemmas.List.{take-append-drop, take-take, length-append, append-nil}
 use Rattle.std.proofs.Math.Seq.{take-length}
@@ -10,17 +10,14 @@ use Rattle.end_store.specs.Records.{kept_after_all, fitting}
 use Rattle.disk_core.specs.Disk.{Held}
 use Rattle.end_store.specs.declared.store.StoreStop.{StoreStop}
 use Rattle.end_store.specs.declared.store.StoreStop.TheVariants as stop
-use Rattle.end_store.specs.Stored.{Stored, prepared, with_records, StepHasCause, StepLeaves}
-use Rattle.checkpoint_journal.specs.State.{State}
-use Rattle.checkpoint_journal.specs.Answers.{RoomHasCause}
-use Rattle.checkpoint_journal.specs.declared.journal.JournalRoom.{JournalRoom}
+use Rattle.end_store.specs.Stored.{Stored, prepared, with_records, IsAsBefore, StepHasCause, StepLeaves}
 use Rattle.checkpoint_journal.proofs.Parts.{most_is}
 use Rattle.end_store.proofs.Records.{after_more, fitting_more, fitting_same, fitting_few}
 use Rattle.world_model.specs.declared.stop.StopAt.{StopAt}
 use Rattle.world_model.specs.World.{Checkpoint, IsFull, IsCut, IsWhole, recorded, recorded_all, with_stop, kept_by, commits_by, commits}
 use Rattle.world_checkpoint.specs.declared.commits.CommitStop.{CommitStop}
-use Rattle.world_checkpoint.specs.declared.commits.CommitStop.TheVariants.{Full, Cut, NoMemory}
-use Rattle.world_checkpoint.specs.Stores.{seen, CommitsTo, HasMore, HasFirst, HasNoRoom, CommitsAll, CutsOff, CutsLast}
+use Rattle.world_checkpoint.specs.declared.commits.CommitStop.TheVariants.{Full, Cut, NoMemory, Differs}
+use Rattle.world_checkpoint.specs.Stores.{seen, IsCutOff, CommitsTo, HasSame, HasMore, HasFirst, HasNoRoom, CommitsAll, CutsOff, CutsLast}
 
 -- ---- what is recorded
 
@@ -62,12 +59,13 @@ no_room k rs lt =
     let past : nat_lt 1048576 (k.records + length rs) ≡ true = grind (arith, nat_tests) in
     ap (λ (t : Bool). cond t (IsFull k.records) (commits_by k rs k.stop)) past
 
+same_seen : (stop : Option StopAt) (old new : Stored) → HasSame old new → seen stop new ≡ seen stop old
+same_seen stop old new same = rw (same.records, same.kept) refl
+
 refused : (stop : Option StopAt) (old new : Stored) (records : ℕ) (rs : List Record) → HasNoRoom records rs old new
     → (commits (seen stop old) rs ≡ IsFull records) × (seen stop new ≡ seen stop old)
-refused stop old new records rs none = (
-  no_room (seen stop old) rs none.past ∙ ap IsFull (sym none.told),
-  rw (none.same_records, none.same_kept) refl,
-)
+refused stop old new records rs none =
+    (no_room (seen stop old) rs none.past ∙ ap IsFull (sym none.told), same_seen stop old new none.same)
 
 -- ---- what a commit answers
 
@@ -80,7 +78,8 @@ module _ (old new : Stored) (rs : List Record) where
       room (seen stop old) rs le ∙ ap (commits_by (seen stop old) rs) is ∙ ap IsWhole (recorded_is stop old new rs more)
   committed_free (Err (Full records)) stop is none = refused stop old new records rs none
   committed_free (Err Cut) stop is never = absurd never
-  committed_free (Err NoMemory) stop is tt = tt
+  committed_free (Err NoMemory) stop is same = same_seen stop old new same
+  committed_free (Err Differs) stop is never = absurd never
 
   -- before the stop
   pub committed_before : (stop : Option StopAt) (s : StopAt) (left : ℕ) → stop ≡ Some s → length rs < s.commit → left ≡ s.commit - length rs
@@ -96,26 +95,32 @@ module _ (old new : Stored) (rs : List Record) where
       ∙ ap (λ (c : Checkpoint). IsWhole (with_stop next c)) (recorded_is stop old new rs more)
       ∙ ap (λ (n : ℕ). IsWhole (seen (Some (record s { commit = n })) new)) (sym count)
 
-  -- or where there is no room before it
+  -- or where they weren't committed before it
   pub committed_not : (e : CommitStop) (stop : Option StopAt) → CommitsAll (Err e) rs old new
       → CommitsTo (Err e) (commits (seen stop old) rs) (seen stop old) (seen stop new)
   committed_not (Full records) stop none = refused stop old new records rs none
   committed_not Cut stop never = absurd never
-  committed_not NoMemory stop tt = tt
+  committed_not NoMemory stop same = same_seen stop old new same
+  committed_not Differs stop never = absurd never
 
-  -- at the stop
-  pub committed_at : (e : CommitStop) (stop : Option StopAt) (s : StopAt) → stop ≡ Some s → s.commit ≤ length rs → CutsOff e rs (take (kept_by s) rs) old new
-      → CommitsTo (Err e) (commits (seen stop old) rs) (seen stop old) (seen stop new)
+  -- a stop is reached amid them
+  cut_at : (stop : Option StopAt) (s : StopAt) → stop ≡ Some s → s.commit ≤ length rs → old.journal.records + length rs ≤ 1048576
+      → commits (seen stop old) rs ≡ IsCut (recorded_all (seen stop old) (take (kept_by s) rs))
   unfolding commits_by
-  committed_at (Full records) stop s is reached none = refused stop old new records rs none
-  committed_at NoMemory stop s is reached tt = tt
-  committed_at Cut stop s is reached (le, more) =
+  cut_at stop s is reached le =
       let within : nat_le s.commit (length rs) ≡ true = grind (arith, nat_tests) in
       let next : Option StopAt = Some (record s { commit = s.commit - length rs }) in
       let k = seen stop old in
       room k rs le ∙ ap (commits_by k rs) is
       ∙ ap (λ (t : Bool). cond t (IsCut (recorded_all k (take (kept_by s) rs))) (IsWhole (with_stop next (recorded_all k rs)))) within
-      ∙ ap IsCut (recorded_is stop old new (take (kept_by s) rs) more)
+
+  -- at the stop
+  pub committed_at : (e : CommitStop) (stop : Option StopAt) (s : StopAt) → stop ≡ Some s → s.commit ≤ length rs → CutsOff e rs (take (kept_by s) rs) old new
+      → CommitsTo (Err e) (commits (seen stop old) rs) (seen stop old) (seen stop new)
+  committed_at (Full records) stop s is reached none = refused stop old new records rs none
+  committed_at NoMemory stop s is reached same = same_seen stop old new same
+  committed_at Cut stop s is reached (le, more) = cut_at stop s is reached le ∙ ap IsCut (recorded_is stop old new (take (kept_by s) rs) more)
+  committed_at Differs stop s is reached (le, same) = (subst IsCutOff (sym (cut_at stop s is reached le)) tt, same_seen stop old new same)
 
 -- ---- the last record before a stop, behind the others
 
@@ -158,29 +163,27 @@ one_at_most true k last one = let few = fitting_few k last in omega arith
 one_at_most false k last one = omega arith
 
 -- the last one is committed where it is kept
-pub cuts_last : (kept : Bool) (last : List Record) (old mid new : Stored) (n : ℕ) → mid ≡ prepared n old → HasFirst last mid new
-    → new.journal.records ≡ old.journal.records + cond kept (length (fitting old.kept last)) 0 → CutsLast Cut kept last old new
-cuts_last true last old mid new n is first records =
-    let more = first_all last (prepared n old) new (subst (λ (s : Stored). HasFirst last s new) is first) records in
-    record { records = more.records; kept = more.kept }
-cuts_last false last old mid new n is first records =
-    let more = first_none last (prepared n old) new (subst (λ (s : Stored). HasFirst last s new) is first) (omega (arith, records)) in
-    record { records = more.records; kept = more.kept }
+pub cuts_last : (kept : Bool) (last : List Record) (old new : Stored) → HasFirst last old new
+    → new.journal.records ≡ old.journal.records + cond kept (length (fitting old.kept last)) 0 → CutsLast kept last old new
+cuts_last true last old new first records = first_all last old new first records
+cuts_last false last old new first records = first_none last old new first (omega (arith, records))
 
 -- and the others before it
-pub cuts_off : (e : CommitStop) (kept : Bool) (commit : ℕ) (rs before last : List Record) (old mid new : Stored) → old.journal.records + length rs ≤ 1048576
-    → before ≡ take (commit - 1) (take commit rs) → last ≡ drop (commit - 1) (take commit rs) → HasMore before old mid → CutsLast e kept last mid new
-    → CutsOff e rs (take (cond kept commit (commit - 1)) rs) old new
-cuts_off (Full records) kept commit rs before last old mid new le front back first never = absurd never
-cuts_off NoMemory kept commit rs before last old mid new le front back first done = tt
-cuts_off Cut true commit rs before last old mid new le front back first done =
+pub cuts_off : (kept : Bool) (commit : ℕ) (rs before last : List Record) (old mid new : Stored)
+    → before ≡ take (commit - 1) (take commit rs) → last ≡ drop (commit - 1) (take commit rs) → HasMore before old mid → CutsLast kept last mid new
+    → HasMore (take (cond kept commit (commit - 1)) rs) old new
+cuts_off true commit rs before last old mid new front back first done =
     let all : before ++ last ≡ take commit rs =
     ap (λ (l : List Record). l ++ last) front ∙ ap (λ (l : List Record). take (commit - 1) (take commit rs) ++ l) back ∙ take-append-drop (commit - 1) (take commit rs)
     in
-    (le, subst (λ (l : List Record). HasMore l old new) all (more_behind before last old mid new first done))
-cuts_off Cut false commit rs before last old mid new le front back first done =
+    subst (λ (l : List Record). HasMore l old new) all (more_behind before last old mid new first done)
+cuts_off false commit rs before last old mid new front back first done =
     let all : before ++ [] ≡ take (commit - 1) rs = append-nil before ∙ front ∙ take-take (commit - 1) commit rs (omega arith) in
-    (le, subst (λ (l : List Record). HasMore l old new) all (more_behind before [] old mid new first done))
+    subst (λ (l : List Record). HasMore l old new) all (more_behind before [] old mid new first done)
+
+-- behind a copy
+pub more_of_copy : (rs : List Record) (s t u : Stored) → HasMore [] s t → HasMore rs t u → HasMore rs s u
+more_of_copy rs s t u copy more = more_behind [] rs s t u copy more
 
 -- ---- what the store answers
 
@@ -190,14 +193,26 @@ whole_is old new rs n is = record {
   kept = ap (λ (s : Stored). s.kept) is;
 }
 
+-- room was made behind them
+pub with_room : (old mid new : Stored) (rs : List Record) (n m : ℕ) → mid ≡ with_records (prepared n old) rs → new ≡ prepared m mid → HasMore rs old new
+with_room old mid new rs n m is next = record {
+  records = ap (λ (s : Stored). s.journal.records) next ∙ ap (λ (s : Stored). s.journal.records) is;
+  kept = ap (λ (s : Stored). s.kept) next ∙ ap (λ (s : Stored). s.kept) is;
+}
+
+as_before : (old new : Stored) (held now : Option Held) → IsAsBefore old new held now → HasSame old new
+as_before old new held now (is, disk) = record {
+  records = ap (λ (s : Stored). s.journal.records) is;
+  kept = ap (λ (s : Stored). s.kept) is;
+}
+
 full_told : (old new : Stored) (rs : List Record) (records faults later : ℕ) (held now : Option Held)
     → StepHasCause {T = ⊤} rs old new faults later (Err (stop.StoreFull records)) → StepLeaves {T = ⊤} old new held now (Err (stop.StoreFull records))
     → HasNoRoom records rs old new
-full_told old new rs records faults later held now (on, past, told, same) (is, disk) = record {
+full_told old new rs records faults later held now (on, past, told, same) leaves = record {
   past = omega (arith, past, most_is);
   told = told;
-  same_records = ap (λ (s : Stored). s.journal.records) is;
-  same_kept = ap (λ (s : Stored). s.kept) is;
+  same = as_before old new held now leaves;
 }
 
 pub full_is : (old new : Stored) (rs : List Record) (f : StoreStop) (records faults later : ℕ) (held now : Option Held) → f ≡ stop.StoreFull records
@@ -206,16 +221,6 @@ full_is old new rs f records faults later held now is cause leaves =
     full_told old new rs records faults later held now (subst (λ (e : StoreStop). StepHasCause {T = ⊤} rs old new faults later (Err e)) is cause)
     (subst (λ (e : StoreStop). StepLeaves {T = ⊤} old new held now (Err e)) is leaves)
 
--- ---- an answer that isn't an error
-
-pub ok_of : {T E P : Type 0} (r : Result T E) → is_err r ≡ false → OnOk r P → P
-ok_of (Ok done) is p = p
-ok_of (Err e) is p = absurd cc
-
-pub room_of : (j : State) (n : ℕ) (r : Result ⊤ JournalRoom) → is_err r ≡ false → RoomHasCause j n r → j.records + n ≤ 1048576
-room_of j n (Ok done) is cause = let le = cause.1 in omega (arith, le, most_is)
-room_of j n (Err e) is cause = absurd cc
-
-pub all_of : (r : Result ⊤ CommitStop) (rs : List Record) (old new : Stored) → is_err r ≡ false → CommitsAll r rs old new → HasMore rs old new
-all_of (Ok done) rs old new is (le, more) = more
-all_of (Err e) rs old new is more = absurd cc
+pub same_is : (old new : Stored) (f : StoreStop) (held now : Option Held) → f ≡ stop.NoMemory → StepLeaves {T = ⊤} old new held now (Err f) → HasSame old new
+same_is old new f held now is leaves =
+    as_before old new held now (subst (λ (e : StoreStop). StepLeaves {T = ⊤} old new held now (Err e)) is leaves)

@@ -1,17 +1,18 @@
 -- A checkpoint as a store on its disk, and what a commit to it answers.
 use Rattle.std.specs.Prelude.{⊤, ◌≡◌, ℕ, ◌+◌, ◌<◌, ◌≤◌, Bool, true, false, List, [], length, take, Option, Some, option_map, Result, Ok, Err}
 use Rattle.disk_core.specs.Disk.{Held}
-use Rattle.disk_core.specs.Memory.{Stopping}
+use Rattle.disk_core.specs.Memory.{Store as Steady, Stopping}
 use Rattle.session_book.specs.declared.record.Record.{Record}
 use Rattle.session_book.specs.Books.{Kept}
+use Rattle.checkpoint_journal.specs.Format.{most_records}
 use Rattle.checkpoint_journal.specs.State.{HasRoom}
 use Rattle.end_store.specs.Records.{kept_after_all, fitting}
-use Rattle.end_store.specs.Stored.{Stored, reads, IsKept}
+use Rattle.end_store.specs.Stored.{Stored, reads, IsKept, OpensWithFirst}
 use Rattle.world_model.specs.declared.stop.StopAt.{StopAt}
 use Rattle.world_model.specs.World.{Checkpoint, Committed, IsFull, IsCut, IsWhole}
 use Rattle.world_checkpoint.specs.declared.commits.Armed.{Armed}
 use Rattle.world_checkpoint.specs.declared.commits.CommitStop.{CommitStop}
-use Rattle.world_checkpoint.specs.declared.commits.CommitStop.TheVariants.{Full, Cut, NoMemory}
+use Rattle.world_checkpoint.specs.declared.commits.CommitStop.TheVariants.{Full, Cut, NoMemory, Differs}
 
 -- a stop without the call at which it is reached
 abbrev pub stop_of : Option Armed → Option StopAt
@@ -21,13 +22,19 @@ stop_of stop = option_map (λ a. a.stop) stop
 abbrev pub seen : Option StopAt → Stored → Checkpoint
 seen stop store = record { records = store.journal.records; book = store.kept; stop = stop }
 
--- what a commit answers by what comes of its records, and the checkpoint before and after it: where memory is wanting, nothing is known
--- of it
+-- records were cut off by a stop
+abbrev pub IsCutOff : Committed → Type 0
+IsCutOff (IsFull records) = ⊥
+IsCutOff (IsCut k) = Unit {0}
+IsCutOff (IsWhole k) = ⊥
+
+-- what a commit answers by what comes of its records, and the checkpoint before and after it
 abbrev pub CommitsTo : Result ⊤ CommitStop → Committed → Checkpoint → Checkpoint → Type 0
 CommitsTo (Ok done) c before after = c ≡ IsWhole after
 CommitsTo (Err (Full records)) c before after = (c ≡ IsFull records) × (after ≡ before)
 CommitsTo (Err Cut) c before after = c ≡ IsCut after
-CommitsTo (Err NoMemory) c before after = Unit {0}
+CommitsTo (Err NoMemory) c before after = after ≡ before
+CommitsTo (Err Differs) c before after = IsCutOff c × (after ≡ before)
 
 -- ---- the store and its disk
 
@@ -37,24 +44,28 @@ pub record IsLive {D : Type 0} (holds : D → Option Held) (reach calls_left : D
   pub kept : IsKept store (holds disk)
   pub room : HasRoom reach calls_left store.journal disk
 
-abbrev pub IsOnDisk : Stored → Stopping → Type 0
-IsOnDisk store disk = IsLive (λ d. Some d.disk.store.held) (λ d. d.disk.store.prepared_to) (λ d. d.disk.store.prepared_calls) store disk
+abbrev pub IsOnDisk : Stored → Steady → Type 0
+IsOnDisk store disk = IsLive (λ d. Some d.held) (λ d. d.prepared_to) (λ d. d.prepared_calls) store disk
 
--- but where memory was wanting
-abbrev pub StopsOn : CommitStop → Type 0 → Type 0
-StopsOn (Full records) P = P
-StopsOn Cut P = P
-StopsOn NoMemory P = Unit {0}
+-- on a disk that can stop
+abbrev pub IsOnStopDisk : Stored → Stopping → Type 0
+IsOnStopDisk store disk = IsLive (λ d. Some d.disk.store.held) (λ d. d.disk.store.prepared_to) (λ d. d.disk.store.prepared_calls) store disk
 
-abbrev pub GoesOn : Result ⊤ CommitStop → Type 0 → Type 0
-GoesOn (Ok done) P = P
-GoesOn (Err stop) P = StopsOn stop P
+-- there is room for one more record
+pub record HasRoomForOne (store : Stored) : Type 0 where
+  pub few : store.journal.records < most_records
+  pub spare : (1 ≤ store.spare) × (1 ≤ store.journal.spare)
 
 -- a file that opens with a book, of whatever kind and node it is
 abbrev pub OpensTo : Kept → List ℕ → Type 0
 OpensTo book file = (kind : ℕ) × (number : ℕ) × (reads kind number file ≡ Ok book)
 
 -- ---- records
+
+-- the store has those that it had
+pub record HasSame (before after : Stored) : Type 0 where
+  pub records : after.journal.records ≡ before.journal.records
+  pub kept : after.kept ≡ before.kept
 
 -- the store has these more, as far as they are in place
 pub record HasMore (rs : List Record) (before after : Stored) : Type 0 where
@@ -72,25 +83,28 @@ pub record HasFirst (rs : List Record) (before after : Stored) : Type 0 where
 pub record HasNoRoom (records : ℕ) (rs : List Record) (before after : Stored) : Type 0 where
   pub past : 1048576 < before.journal.records + length rs
   pub told : records ≡ before.journal.records
-  pub same_records : after.journal.records ≡ before.journal.records
-  pub same_kept : after.kept ≡ before.kept
+  pub same : HasSame before after
 
 -- all of these were committed, or why not
 abbrev pub CommitsAll : Result ⊤ CommitStop → List Record → Stored → Stored → Type 0
 CommitsAll (Ok done) rs before after = (before.journal.records + length rs ≤ 1048576) × HasMore rs before after
 CommitsAll (Err (Full records)) rs before after = HasNoRoom records rs before after
 CommitsAll (Err Cut) rs before after = ⊥
-CommitsAll (Err NoMemory) rs before after = Unit {0}
+CommitsAll (Err NoMemory) rs before after = HasSame before after
+CommitsAll (Err Differs) rs before after = ⊥
 
 -- of these the first were committed, or why not
 abbrev pub CutsOff : CommitStop → List Record → List Record → Stored → Stored → Type 0
 CutsOff Cut rs first before after = (before.journal.records + length rs ≤ 1048576) × HasMore first before after
 CutsOff (Full records) rs first before after = HasNoRoom records rs before after
-CutsOff NoMemory rs first before after = Unit {0}
+CutsOff NoMemory rs first before after = HasSame before after
+CutsOff Differs rs first before after = (before.journal.records + length rs ≤ 1048576) × HasSame before after
 
 -- the last one was committed where it is kept
-abbrev pub CutsLast : CommitStop → Bool → List Record → Stored → Stored → Type 0
-CutsLast Cut true last before after = HasMore last before after
-CutsLast Cut false last before after = HasMore [] before after
-CutsLast (Full records) kept last before after = ⊥
-CutsLast NoMemory kept last before after = Unit {0}
+abbrev pub CutsLast : Bool → List Record → Stored → Stored → Type 0
+CutsLast true last before after = HasMore last before after
+CutsLast false last before after = HasMore [] before after
+
+-- the file opens with the store's records and the first few of these that are in place
+abbrev pub LeavesFirst : List Record → Stored → List ℕ → Type 0
+LeavesFirst rs store file = (contents : List (List ℕ)) × (length contents ≡ store.journal.records) × OpensWithFirst store contents rs 0 file

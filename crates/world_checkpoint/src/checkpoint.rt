@@ -1,13 +1,13 @@
 //! A node's checkpoint.
 
-ghost use Rattle.std.specs.Prelude.{◌≡◌, Some, None, IfOk, IfSome};
+ghost use Rattle.std.specs.Prelude.{◌≡◌, Some, None, IfOk};
 ghost use Rattle.std.specs.List.{AllByRecursion};
 ghost use Rattle.step_ledger.specs.Committing.{IsUnmarked};
 ghost use Rattle.world_model.specs.World.{new_checkpoint, with_stop, commits};
-ghost use Rattle.world_checkpoint.specs.Stores.{OpensTo, IsOnDisk, seen, stop_of, CommitsTo, GoesOn};
+ghost use Rattle.world_checkpoint.specs.Stores.{OpensTo, IsOnDisk, seen, stop_of, CommitsTo};
 
 use crate::commits::{Armed, CommitStop, commit_all, cut_off};
-use disk_core::{Fails, MemoryDisk, StopDisk};
+use disk_core::SteadyDisk;
 use end_store::Store;
 use session_book::{Book, Record};
 use std::alloc::Global;
@@ -21,14 +21,11 @@ use world_model::StopAt;
 pub struct Checkpoint {
     alloc: Global,
     store: Store,
-    disk: StopDisk,
+    disk: SteadyDisk,
     stop: Option<Armed>,
-    // Memory was wanting in a commit: then nothing is known of the disk, and nothing more is committed.
-    lost: bool,
 }
 
 impl Model for Checkpoint {
-    ghost use Rattle.std.specs.Prelude.{◌≡◌, false};
     ghost use Rattle.world_model.specs.World.{Checkpoint as Known};
     ghost use Rattle.world_checkpoint.specs.Stores.{IsOnDisk, seen, stop_of};
 
@@ -36,7 +33,7 @@ impl Model for Checkpoint {
 
     ghost view = { λ c. seen (stop_of c.stop) c.store };
 
-    ghost invariant = { λ c. c.lost ≡ false → IsOnDisk c.store c.disk };
+    ghost invariant = { λ c. IsOnDisk c.store c.disk };
 }
 
 impl Checkpoint {
@@ -45,28 +42,23 @@ impl Checkpoint {
     pub fn new(alloc: Global, kind: u8, number: u8) -> Result<Checkpoint, OutOfMemory>
         ensures { IfOk result (λ c. c ≡ new_checkpoint) }
     {
-        let disk = MemoryDisk::new(alloc, Bytes::new(alloc), Fails::new(alloc))?;
-        let mut disk = StopDisk::new(disk, u64::MAX);
+        let mut disk = SteadyDisk::new(alloc, Bytes::new(alloc))?;
         match Store::open(alloc, &mut disk, kind, number) {
             Ok(store) => Ok(Checkpoint {
                 alloc,
                 store,
                 disk,
                 stop: None,
-                lost: false,
             }),
             Err(_) => Err(OutOfMemory),
         }
     }
 
-    /// What its disk holds, None where memory was wanting in a commit. Opened as the journal of its node it has the checkpoint's book.
-    pub fn file(&self) -> Option<&[u8]>
-        ensures { IfSome result (λ file. OpensTo self.now.book file.now) }
+    /// What its disk holds. Opened as the journal of its node it has the checkpoint's book.
+    pub fn file(&self) -> &[u8]
+        ensures { OpensTo self.now.book result.now }
     {
-        if self.lost {
-            return None;
-        }
-        Some(self.disk.bytes())
+        self.disk.bytes()
     }
 
     /// Arms a stop, in place of the one before, which is reached at this call of its commit, 1 to 4.
@@ -97,20 +89,13 @@ impl Ledger for Checkpoint {
 
     /// Commits the records of a step: those that are in place are on the disk then, up to a stop that is armed.
     fn commit(&mut self, records: &[Record]) -> Result<(), CommitStop> {
-        if self.lost {
-            return Err(CommitStop::NoMemory);
-        }
-        let done = commit_by(
+        commit_by(
             self.alloc,
             &mut self.store,
             &mut self.disk,
             &mut self.stop,
             records,
-        );
-        if let Err(CommitStop::NoMemory) = done {
-            self.lost = true;
-        }
-        done
+        )
     }
 }
 
@@ -131,14 +116,14 @@ impl BookedLedger for Checkpoint {
 fn commit_by(
     alloc: Global,
     store: &mut Store,
-    disk: &mut StopDisk,
+    disk: &mut SteadyDisk,
     stop: &mut Option<Armed>,
     records: &[Record],
 ) -> Result<(), CommitStop>
     requires on_disk { IsOnDisk store.old disk.old }
     requires unmarked { AllByRecursion IsUnmarked records.now }
     ensures committed { CommitsTo result (commits (seen (stop_of stop.old) store.old) records.now) (seen (stop_of stop.old) store.old) (seen (stop_of stop.new) store.new) }
-    ensures on_disk { GoesOn result (IsOnDisk store.new disk.new) }
+    ensures on_disk { IsOnDisk store.new disk.new }
 {
     match *stop {
         None => commit_all(store, disk, records),
@@ -150,7 +135,7 @@ fn commit_by(
 fn commit_armed(
     alloc: Global,
     store: &mut Store,
-    disk: &mut StopDisk,
+    disk: &mut SteadyDisk,
     stop: &mut Option<Armed>,
     armed: Armed,
     records: &[Record],
@@ -159,7 +144,7 @@ fn commit_armed(
     requires unmarked { AllByRecursion IsUnmarked records.now }
     requires armed { stop.old ≡ Some armed }
     ensures committed { CommitsTo result (commits (seen (stop_of stop.old) store.old) records.now) (seen (stop_of stop.old) store.old) (seen (stop_of stop.new) store.new) }
-    ensures on_disk { GoesOn result (IsOnDisk store.new disk.new) }
+    ensures on_disk { IsOnDisk store.new disk.new }
 {
     let count = records.len();
     if usize::from(armed.stop.commit) <= count {

@@ -1,16 +1,15 @@
 //! Records that are committed to a store on a disk in memory, all of them or up to a stop.
 
-ghost use Rattle.std.specs.Prelude.{◌≡◌, ◌≤◌, ◌+◌, min, length, take, if◌then◌else◌};
+ghost use Rattle.std.specs.Prelude.{◌≡◌, ◌≤◌, ◌<◌, ◌+◌, ◌↔◌, IsTrue, length, take};
 ghost use Rattle.std.specs.List.{AllByRecursion};
 ghost use Rattle.step_ledger.specs.Committing.{IsUnmarked};
-ghost use Rattle.end_store.specs.Records.{fitting};
 ghost use Rattle.world_model.specs.World.{kept_by};
-ghost use Rattle.world_checkpoint.specs.Stores.{IsOnDisk, CommitsAll, CutsOff, CutsLast, GoesOn, StopsOn};
+ghost use Rattle.world_checkpoint.specs.Stores.{IsOnDisk, CommitsAll, CutsOff};
 
-use crate::crash::commit_and_crash;
-use disk_core::StopDisk;
+use crate::stopping::left_by_stop;
+use disk_core::SteadyDisk;
 use end_store::{Store, StoreStop};
-use session_book::{Book, Record};
+use session_book::Record;
 use std::alloc::Global;
 use world_model::StopAt;
 
@@ -24,8 +23,10 @@ pub enum CommitStop {
     Full { records: u32 },
     /// A stop was reached amid them. The checkpoint has those before it, and the one that it stopped at where that is kept.
     Cut,
-    /// Memory was wanting, or the disk in memory failed where no stop was reached, which it doesn't.
+    /// Memory was wanting. The checkpoint is as before.
     NoMemory,
+    /// A stop was reached amid them, and what the disk then held didn't open with as many records as were due. The checkpoint is as before.
+    Differs,
 }
 
 /// A stop that is armed, and the call of its commit at which it is reached: 1 to 4, the first write, its sync, the write of the gate, and
@@ -39,82 +40,35 @@ pub(crate) struct Armed {
 /// Commits all of these.
 pub(crate) fn commit_all(
     store: &mut Store,
-    disk: &mut StopDisk,
+    disk: &mut SteadyDisk,
     records: &[Record],
 ) -> Result<(), CommitStop>
     requires on_disk { IsOnDisk store.old disk.old }
     requires unmarked { AllByRecursion IsUnmarked records.now }
     ensures committed { CommitsAll result records.now store.old store.new }
-    ensures on_disk { GoesOn result (IsOnDisk store.new disk.new) }
+    ensures on_disk { IsOnDisk store.new disk.new }
 {
     match store.commit_step(disk, records) {
         Ok(()) => Ok(()),
         Err(StoreStop::StoreFull { records }) => Err(CommitStop::Full { records }),
-        Err(_) => Err(CommitStop::NoMemory),
+        Err(StoreStop::NoMemory) => Err(CommitStop::NoMemory),
+        // The disk never fails, and so the store isn't halted.
+        Err(StoreStop::StoreFault | StoreStop::Halted) => unreachable!(),
     }
 }
 
-/// How many of at most one record are in place behind a book.
-#[tactic(auto, unfolding(end_store::specs::Records::fitting))]
-fn in_place(book: &Book, last: &[Record]) -> u32
-    requires { length last.now ≤ 1 }
-    ensures { result ≡ length (fitting book.now.kept last.now) }
+/// Whether there is no room for these.
+fn is_full(store: &Store, records: &[Record]) -> bool
+    ensures { IsTrue result ↔ 1048576 < store.now.journal.records + length records.now }
 {
-    match last {
-        [next] if book.fits(next) => 1,
-        _ => 0,
-    }
-}
-
-/// How many records there are where the last one, if there is one, is kept, or isn't.
-fn due_with(store: &Store, last: &[Record], kept: bool) -> u32
-    requires { length last.now ≤ 1 }
-    ensures { result ≡ min (store.now.journal.records + (if kept then length (fitting store.now.kept last.now) else 0)) 4294967295 }
-{
-    if kept {
-        store.records().saturating_add(in_place(store.book(), last))
-    } else {
-        store.records()
-    }
-}
-
-/// Stops at the last record, if there is one: the disk stops at that call of its commit and crashes, and the store is opened again. Where
-/// it doesn't open with as many records as are due, by whether what isn't synced is kept, memory was wanting.
-fn cut_last(
-    alloc: Global,
-    store: &mut Store,
-    disk: &mut StopDisk,
-    armed: Armed,
-    last: &[Record],
-) -> CommitStop
-    requires on_disk { IsOnDisk store.old disk.old }
-    requires one { length last.now ≤ 1 }
-    requires unmarked { AllByRecursion IsUnmarked last.now }
-    ensures cut { CutsLast result armed.stop.kept last.now store.old store.new }
-    ensures on_disk { StopsOn result (IsOnDisk store.new disk.new) }
-{
-    let due = due_with(store, last, armed.stop.kept);
-    if store.prepare(disk, 1).is_err() {
-        return CommitStop::NoMemory;
-    }
-    disk.stop_behind(u64::from(armed.call.saturating_sub(1)));
-    match commit_and_crash(alloc, store, disk, last, armed.stop.kept) {
-        Ok(()) => {
-            if store.records() == due {
-                CommitStop::Cut
-            } else {
-                CommitStop::NoMemory
-            }
-        }
-        Err(_) => CommitStop::NoMemory,
-    }
+    (store.records() as usize).saturating_add(records.len()) > LIMIT
 }
 
 /// Commits the records of a step up to a stop that is reached amid them.
 pub(crate) fn cut_off(
     alloc: Global,
     store: &mut Store,
-    disk: &mut StopDisk,
+    disk: &mut SteadyDisk,
     armed: Armed,
     records: &[Record],
 ) -> CommitStop
@@ -122,18 +76,20 @@ pub(crate) fn cut_off(
     requires reached { armed.stop.commit ≤ length records.now }
     requires unmarked { AllByRecursion IsUnmarked records.now }
     ensures cut { CutsOff result records.now (take (kept_by armed.stop) records.now) store.old store.new }
-    ensures on_disk { StopsOn result (IsOnDisk store.new disk.new) }
+    ensures on_disk { IsOnDisk store.new disk.new }
 {
-    if (store.records() as usize).saturating_add(records.len()) > LIMIT {
+    if is_full(store, records) {
         return CommitStop::Full {
             records: store.records(),
         };
     }
-    let count = usize::from(armed.stop.commit);
-    let (reached, _) = records.split_at(count);
-    let (before, last) = reached.split_at(count.saturating_sub(1));
-    if commit_all(store, disk, before).is_err() {
-        return CommitStop::NoMemory;
+    match left_by_stop(alloc, store, disk, armed, records) {
+        Ok(Some((left, its))) => {
+            *store = left;
+            *disk = its;
+            CommitStop::Cut
+        }
+        Ok(None) => CommitStop::Differs,
+        Err(_) => CommitStop::NoMemory,
     }
-    cut_last(alloc, store, disk, armed, last)
 }

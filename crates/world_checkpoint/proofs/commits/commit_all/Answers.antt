@@ -10,5 +10,5 @@ returns-in-Ok-clause-committed c =
 
 pub returns-in-Err-StoreFull-clause-committed : goal.returns-in-Err-StoreFull-clause-committed
 returns-in-Err-StoreFull-clause-committed c =
-    full_is c.args.store.now c.commit_step.new.self c.args.records.now c.in-Err-StoreFull.field-0 c.in-Err-StoreFull.records _ _ _ _ c.in-Err-StoreFull.field-0-is
+    full_is c.args.store.now c.commit_step.new.self c.args.records.now c.in-Err-StoreFull.field-0 c.in-Err-StoreFull.records 0 0 _ _ c.in-Err-StoreFull.field-0-is
     c.in-Err-StoreFull.ensures.cause c.in-Err-StoreFull.ensures.refused

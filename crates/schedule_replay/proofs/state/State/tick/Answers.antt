@@ -22,7 +22,7 @@ returns c =
     let there = later_there c.args.milliseconds (at w.nodes n) c.in-Some.at.now c.in_default.field-0.now x before up c.pass.ensures in
     let v : SiteStep = site_step (site_in x) x.clock (block_of n line) Tick in
     let made : MakesStep c.step-made.result (block_of n line) v x y =
-    subst (λ (b : List ℕ). MakesStep c.step-made.result b (site_step (site_in x) x.clock b Tick) x y) c.block_of.ensures c.step-made.ensures in
+    subst (λ (b : List ℕ). MakesStep c.step-made.result b (site_step (site_in x) x.clock b Tick) x y) c.block_of.ensures c.step-made.ensures.made in
     let put_is : mid.world ≡ with_node w n y = ap (λ (i : ℕ). record w { nodes = put w.nodes i y }) c.from.ensures in
     let one = tick_says c.show_made.result w line n c.args.milliseconds x (at w.nodes n) told c.show_made.new.self there
     (made_says c.show_made.result c.step-made.result line n x y v told mid c.show_made.new.self made put_is refl refl c.show_made.ensures) in

@@ -5,5 +5,5 @@ use Rattle.world_checkpoint.proofs.checkpoint.Checkpoint.file.Goals as goal
 
 pub returns : goal.returns
 returns c =
-    opens_to c.self.inside.store c.self.inside.disk.disk.store.held c.args.self.now.book c.bytes.result.now (c.self.invariant c.if-self.false).kept c.bytes.ensures
+    opens_to c.self.inside.store c.self.inside.disk.held c.args.self.now.book c.bytes.result.now c.self.invariant.kept c.bytes.ensures
     (ap (λ (k : Checkpoint). k.book) c.self.view_is)
