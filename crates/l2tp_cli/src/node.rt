@@ -76,6 +76,7 @@ fn run_over(rt: &HostRuntime, words: &[String], places: Places, generator: ChaCh
     let mut clock = RestingClock::new(StdClock::new(rt), &watch, REST);
     let mut generator = generator;
     let mut sink = StdSink::new(rt.stdout());
+    let mut log = StdSink::new(rt.stderr());
     node_top(
         alloc,
         words,
@@ -87,6 +88,7 @@ fn run_over(rt: &HostRuntime, words: &[String], places: Places, generator: ChaCh
         &mut clock,
         &mut generator,
         &mut sink,
+        &mut log,
     )
     .status()
 }

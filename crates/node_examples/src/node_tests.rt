@@ -2,7 +2,7 @@ use block_source::seeded;
 use disk_core::{Fails, MemoryDisk};
 use memory_ports::{ManualClock, MemoryEther, MemoryLink, MemoryUplink, Moments};
 use node_top::{NodeExit, node_top};
-use port_traits::{Datagrams, Fails as PortFails, Frames, LowerFrames, MemorySink};
+use port_traits::{Datagram, Datagrams, Fails as PortFails, Frames, LowerFrames, MemorySink};
 use std::alloc::Global;
 use std::test::Fail;
 use wire_base::Bytes;
@@ -23,6 +23,30 @@ const NEW_STORE: &[u8; 33] = b"OL2TPCKP1\x01\x01\0\0\0\0\0\0\0\0\0\0\0\0\0\0\0\0
 const OPENED_STORE: &[u8; 65] = b"OL2TPCKP1\x01\x01\0\0\0\0\0\0\0\0\0\0\0\0\0\0\0\0\0\0\0\0C\
 O\x01\x01\0\0\0\x40\0\0\0\0\0\0\0\0\0\0\0\0\0\0\0\0\0\0\0\0\0\0\0\0\0C";
 
+/// The words of the LNS 2, which makes as many turns as there are messages.
+const LNS: &str = "node --role lns --number 2 --listen 127.0.0.2 --store s --turns";
+
+/// What a LAC at 127.0.0.1 sends: SCCRQ for its tunnel 7, SCCCN, ICRQ for its session 40, ICCN, CDN with the result 3, and StopCCN with
+/// the result 1; the LNS has tunnel 1 and session 1 for these. A datagram that is no message comes between them.
+const MESSAGES: [&[u8]; 7] = [
+    b"\xc8\x02\0\x40\0\0\0\0\0\0\0\0\x80\x08\0\0\0\0\0\x01\x80\x08\0\0\0\x02\x01\0\
+\x80\x0a\0\0\0\x03\0\0\0\x01\x80\x0a\0\0\0\x07lac1\x80\x08\0\0\0\x09\0\x07\x80\x08\0\0\0\x0a\0\x08",
+    b"\xc8\x02\0\x14\0\x01\0\0\0\x01\0\x01\x80\x08\0\0\0\0\0\x03",
+    b"\xc8\x02\0\x26\0\x01\0\0\0\x02\0\x01\x80\x08\0\0\0\0\0\x0a\x80\x08\0\0\0\x0e\0\x28\
+\x80\x0a\0\0\0\x0f\0\0\0\x01",
+    b"no message",
+    b"\xc8\x02\0\x28\0\x01\0\x01\0\x03\0\x02\x80\x08\0\0\0\0\0\x0c\x80\x0a\0\0\0\x18\0\0\0\0\
+\x80\x0a\0\0\0\x13\0\0\0\x01",
+    b"\xc8\x02\0\x24\0\x01\0\x01\0\x04\0\x02\x80\x08\0\0\0\0\0\x0e\x80\x08\0\0\0\x01\0\x03\
+\x80\x08\0\0\0\x0e\0\x28",
+    b"\xc8\x02\0\x24\0\x01\0\0\0\x05\0\x02\x80\x08\0\0\0\0\0\x04\x80\x08\0\0\0\x09\0\x07\
+\x80\x08\0\0\0\x01\0\x01",
+];
+
+/// The lines of the LNS that has them.
+const LINES: &[u8] = b"tunnel 1 up peer 127.0.0.1 remote 7\n\
+call 1 up tunnel 1 remote 40\ncall 1 gone tunnel 1 by peer\ntunnel 1 closed by peer\n";
+
 /// What is around a node, with nothing waiting.
 #[derive(Drop)]
 struct Surroundings {
@@ -32,6 +56,7 @@ struct Surroundings {
     disk: MemoryDisk,
     clock: ManualClock,
     sink: MemorySink,
+    log: MemorySink,
 }
 
 // Functions without clauses: a test that calls them is proved at little cost.
@@ -73,6 +98,7 @@ fn around_disk(alloc: Global, disk: MemoryDisk, failing: Failing) -> Surrounding
         disk,
         clock: clock(alloc),
         sink: MemorySink::new(alloc, fails_at(alloc, sink)),
+        log: MemorySink::new(alloc, fails_at(alloc, 0)),
     }
 }
 
@@ -112,6 +138,7 @@ fn run(alloc: Global, words: &[String], around: &mut Surroundings) -> NodeExit {
         &mut around.clock,
         &mut generator,
         &mut around.sink,
+        &mut around.log,
     )
 }
 
@@ -133,21 +160,26 @@ fn ran(
     Some((exit, around))
 }
 
-/// It ends so, the sink has this text, and the disk this file.
+/// It ends so, the sink has this text, the disk this file, and the log nothing.
 fn ends(alloc: Global, line: &str, more: &str, exit: NodeExit, text: &[u8], file: &[u8]) -> bool {
     match ran(alloc, line, more, NONE) {
         None => false,
         Some((ended, around)) => {
-            ended == exit && around.sink.taken() == text && around.disk.bytes() == file
+            ended == exit
+                && around.sink.taken() == text
+                && around.disk.bytes() == file
+                && around.log.taken().is_empty()
         }
     }
 }
 
-/// Where these calls fail, it ends so, and the sink has this text.
+/// Where these calls fail, it ends so, and the sink and the log have this text.
 fn fails(alloc: Global, more: &str, failing: Failing, exit: NodeExit, text: &[u8]) -> bool {
     match ran(alloc, LAC, more, failing) {
         None => false,
-        Some((ended, around)) => ended == exit && around.sink.taken() == text,
+        Some((ended, around)) => {
+            ended == exit && around.sink.taken() == text && around.log.taken() == text
+        }
     }
 }
 
@@ -289,5 +321,47 @@ fn each_fault_is_told_as_its_own(rt: HostRuntime) -> Result<(), Fail> {
         );
     }
     assert!(rt; fails(alloc, open, (0, 0, 0, 0, 1), NodeExit::WriteFault, b""));
+    Ok(())
+}
+
+/// The messages as they wait at the LNS.
+fn messages(alloc: Global) -> Option<Datagrams> {
+    let mut waiting = Datagrams::new(alloc);
+    for bytes in &MESSAGES {
+        let bytes = Bytes::from_slice(alloc, bytes).ok()?;
+        let peer = 0x7f00_0001;
+        waiting.push(Datagram { peer, bytes }).ok()?;
+    }
+    Some(waiting)
+}
+
+/// The LNS that has the messages and a log of which this call fails: how it ends, and what is around it then.
+fn served(alloc: Global, log_fails: u64) -> Option<(NodeExit, Box<Surroundings>)> {
+    let mut around = around(alloc, NONE)?;
+    around.link = MemoryLink::new(alloc, messages(alloc)?, fails_at(alloc, 0));
+    around.log = MemorySink::new(alloc, fails_at(alloc, log_fails));
+    let exit = run_line(alloc, LNS, "7", &mut around);
+    Some((exit, around))
+}
+
+/// The log has these lines then, and the rest is as that of a log that doesn't fail.
+fn logs(alloc: Global, log_fails: u64, lines: &[u8]) -> bool {
+    let (Some((exit, around)), Some((whole, other))) = (served(alloc, log_fails), served(alloc, 0))
+    else {
+        return false;
+    };
+    exit == NodeExit::Ok
+        && whole == NodeExit::Ok
+        && around.log.taken() == lines
+        && around.sink.taken() == other.sink.taken()
+        && around.disk.bytes() == other.disk.bytes()
+        && around.link.given().len() == other.link.given().len()
+}
+
+#[test]
+fn an_operator_reads_of_tunnels_and_calls(rt: HostRuntime) -> Result<(), Fail> {
+    let alloc = rt.alloc();
+    assert!(rt; logs(alloc, 0, LINES));
+    assert!(rt; logs(alloc, 1, &LINES[36..]));
     Ok(())
 }

@@ -1,5 +1,5 @@
 -- What each step keeps is kept in a turn, and in turn after turn.
-use Rattle.std.proofs.Common.{ℕ, List, [], ◌∷◌, sym, ap, subst}
+use Rattle.std.proofs.Common.{ℕ, inl, inr, Bool, true, false, List, [], ◌∷◌, sym, ap, subst}
 use Rattle.std.specs.Prelude.{Option}
 use Rattle.rand_core.specs.Stream.{Stream, fill_bytes}
 use Rattle.port_traits.specs.Packets.{Moments}
@@ -10,6 +10,7 @@ use Rattle.port_events.specs.declared.giving.TurnFault.{TurnFault}
 use Rattle.port_events.specs.Feeding.{Given, Leads, Ends, Stopped}
 use Rattle.port_turn.specs.Turns.{Waits, Asked, Turn, Turned, Broke}
 use Rattle.port_turn.specs.Runs.{Node, Runs, Opens, BreaksOff, OpeningStopped}
+use Rattle.node_run.specs.Serves.{Begins, Serves, EndsShort}
 
 module _ {S : Type 0} (steps : S → ℕ → List ℕ → Event → List Out → S → Type 0) (R : S → S → Type 0)
     (same : (x : S) → R x x) (then : (x y z : S) → R x y → R y z → R x z)
@@ -30,6 +31,13 @@ module _ {S : Type 0} (steps : S → ℕ → List ℕ → Event → List Out →
   pub opens_keep : (p q : Node S) → Opens steps p q → R p.end q.end
   opens_keep p q h = leads_keep h.now p.stream q.stream p.end q.end (event.Open ∷ []) h.fed.outs h.fed.leads
 
+  begins_keep : (opens : Bool) (p q : Node S) → Begins steps opens p q → R p.end q.end
+  begins_keep true p q h = opens_keep p q h
+  begins_keep false p q h = subst (λ (n : Node S). R p.end n.end) (sym h) (same p.end)
+
+  pub serves_keep : (opens : Bool) (turns : ℕ) (p q : Node S) → Serves steps opens turns p q → R p.end q.end
+  serves_keep opens turns p q h = then p.end h.0.end q.end (begins_keep opens p h.0 h.1) (runs_keep h.2 h.0 q h.4)
+
   -- and then what the last event leaves follows
   module _ {F : Type 0} (stops : S → ℕ → List ℕ → Event → F → S → Type 0) (fault : TurnFault F) (Q : S → S → Type 0)
       (behind : (x y z : S) → R x y → Q y z → Q x z)
@@ -45,3 +53,7 @@ module _ {S : Type 0} (steps : S → ℕ → List ℕ → Event → List Out →
 
     pub opening_keep : (p : Node S) (y : S) (g' : Given) (w' : Waits) (a' : Asked) → OpeningStopped steps stops fault p y g' w' a' → Q p.end y
     opening_keep p y g' w' a' h = stopped_keep h.now p.stream p.end y p.given g' _ h.stopped
+
+    pub short_keep : (opens : Bool) (p : Node S) (y : S) (g' : Given) (w' : Waits) (a' : Asked) → EndsShort steps stops fault opens p y g' w' a' → Q p.end y
+    short_keep opens p y g' w' a' (inl h) = opening_keep p y g' w' a' h.1
+    short_keep opens p y g' w' a' (inr h) = behind p.end h.0.end y (begins_keep opens p h.0 h.1) (breaks_keep h.0 y g' w' a' h.2)

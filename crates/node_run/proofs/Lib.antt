@@ -1,4 +1,5 @@
 mod Causes
+mod Growing
 mod Keeping
 mod Lent
 mod Returning

@@ -1,5 +1,5 @@
 -- Steps that are seen as those of something else are so in a turn, and in turn after turn.
-use Rattle.std.proofs.Common.{◌≡◌, ℕ, inl, inr, List, [], ◌∷◌, refl, ap, ◌∙◌}
+use Rattle.std.proofs.Common.{◌≡◌, ℕ, inl, inr, Bool, true, false, List, [], ◌∷◌, refl, ap, ◌∙◌}
 use Rattle.std.specs.Prelude.{Option, Some, None}
 use Rattle.rand_core.specs.Stream.{Stream, fill_bytes}
 use Rattle.port_traits.specs.Packets.{Moments}
@@ -9,6 +9,7 @@ use Rattle.port_events.specs.declared.giving.TurnFault.{TurnFault}
 use Rattle.port_events.specs.Feeding.{Given, Leads, Fed, Ends, Stopped}
 use Rattle.port_turn.specs.Turns.{Waits, Asked, Turn, Turned, Broke}
 use Rattle.port_turn.specs.Runs.{Node, node, MakesTurn, Runs, Opens, BreaksOff, OpeningStopped}
+use Rattle.node_run.specs.Serves.{Begins, Serves, EndsShort}
 
 module _ {S P : Type 0} (f : S → P) (steps : S → ℕ → List ℕ → Event → List Out → S → Type 0) (steps' : P → ℕ → List ℕ → Event → List Out → P → Type 0)
     (one : (x y : S) (now : ℕ) (block : List ℕ) (e : Event) (outs : List Out) → steps x now block e outs y → steps' (f x) now block e outs (f y)) where
@@ -44,6 +45,13 @@ module _ {S P : Type 0} (f : S → P) (steps : S → ℕ → List ℕ → Event 
     waits = h.waits;
     asks = h.asks;
   }
+
+  begins_view : (opens : Bool) (p q : Node S) → Begins steps opens p q → Begins steps' opens (seen p) (seen q)
+  begins_view true p q h = opens_view p q h
+  begins_view false p q h = ap seen h
+
+  pub serves_view : (opens : Bool) (turns : ℕ) (p q : Node S) → Serves steps opens turns p q → Serves steps' opens turns (seen p) (seen q)
+  serves_view opens turns p q h = (seen h.0, begins_view opens p h.0 h.1, h.2, h.3, runs_view h.2 h.0 q h.4)
 
   module _ {F : Type 0} (stops : S → ℕ → List ℕ → Event → F → S → Type 0) (stops' : P → ℕ → List ℕ → Event → F → P → Type 0)
       (two : (x y : S) (now : ℕ) (block : List ℕ) (e : Event) (stop : F) → stops x now block e stop y → stops' (f x) now block e stop (f y)) (fault : TurnFault F) where
@@ -103,3 +111,7 @@ module _ {S P : Type 0} (f : S → P) (steps : S → ℕ → List ℕ → Event 
       waits = h.waits;
       asks = h.asks;
     }
+
+    pub short_view : (opens : Bool) (p : Node S) (y : S) (g' : Given) (w' : Waits) (a' : Asked) → EndsShort steps stops fault opens p y g' w' a' → EndsShort steps' stops' fault opens (seen p) (f y) g' w' a'
+    short_view opens p y g' w' a' (inl h) = inl (h.0, opening_view p y g' w' a' h.1)
+    short_view opens p y g' w' a' (inr h) = inr (seen h.0, begins_view opens p h.0 h.1, breaks_view h.0 y g' w' a' h.2)

@@ -5,7 +5,7 @@ use Rattle.checkpoint_journal.specs.State.{HasRoom}
 use Rattle.end_model.specs.declared.event.Event.{Event}
 use Rattle.end_model.specs.Access.{serves}
 use Rattle.end_model.specs.Contents.{contents_of}
-use Rattle.end_model.specs.End.{step}
+use Rattle.end_model.specs.End.{Stepped, step}
 use Rattle.lac_core.specs.Gives.{end_step}
 use Rattle.end_store.specs.declared.store.StoreStop.{StoreStop}
 use Rattle.end_store.specs.Stored.{Stored}
@@ -19,7 +19,9 @@ use Rattle.node_run.specs.declared.end.NodeEnd.TheVariants.{Lac, Lns}
 use Rattle.node_run.specs.declared.end.NodeStop.{NodeStop}
 use Rattle.node_run.specs.declared.end.NodeStop.TheVariants.{Store, Unsent}
 use Rattle.node_run.specs.declared.lending.Counts.{Counts}
+use Rattle.node_notes.specs.Texts.{notes_text}
 use Rattle.node_run.specs.Events.{event_of}
+use Rattle.node_run.specs.Logs.{Sunk, Noted}
 use Rattle.node_run.specs.Outs.{lac_outs, lns_outs}
 
 -- the store of an end
@@ -31,6 +33,14 @@ store_of (Lns s) = s.store
 abbrev pub outs_of : NodeEnd → ℕ → List ℕ → Event → List Going
 outs_of (Lac s) moment block ev = lac_outs (serves s.lac moment block ev)
 outs_of (Lns s) moment block ev = lns_outs (step s.lns moment block ev)
+
+-- and what an operator is told of it
+abbrev pub lines_by : Stepped → List ℕ
+lines_by s = notes_text s.moves s.outputs
+
+abbrev pub lines_of : NodeEnd → ℕ → List ℕ → Event → List ℕ
+lines_of (Lac s) moment block ev = lines_by (end_step (serves s.lac moment block ev))
+lines_of (Lns s) moment block ev = lines_by (step s.lns moment block ev)
 
 module _ {D : Type 0} (holds : D → Option Held) (reach calls_left faults : D → ℕ) (disk now : D) (moment : ℕ) (block : List ℕ) (ev : Event) where
   -- a LAC made the step of the definitions, and all that it leaves was committed before
@@ -69,16 +79,22 @@ module _ {D : Type 0} (holds : D → Option Held) (reach calls_left faults : D �
   Halts (Store stop) before after = Stays stop before after
   Halts Unsent before after = Makes before after
 
+-- of a step that wasn't made the log isn't told
+abbrev pub HaltNoted : NodeStop → List ℕ → Sunk → Sunk → Type 0
+HaltNoted (Store stop) lines old new = new ≡ old
+HaltNoted Unsent lines old new = Noted lines old new
+
 -- ---- a node between its ports
 
--- an end, its disk, and what the node counts
+-- an end, its disk, what the node counts, and what its log took
 pub record Running (D : Type 0) : Type 0 where
   pub end : NodeEnd
   pub disk : D
   pub counts : Counts
+  pub log : Sunk
 
-abbrev pub running : {D : Type 0} → NodeEnd → D → Counts → Running D
-running end disk counts = record { end = end; disk = disk; counts = counts }
+abbrev pub running : {D : Type 0} → NodeEnd → D → Counts → Sunk → Running D
+running end disk counts log = record { end = end; disk = disk; counts = counts; log = log }
 
 -- a count stands still at its type's end
 abbrev pub more : ℕ → ℕ → ℕ
@@ -110,8 +126,10 @@ module _ {D : Type 0} (holds : D → Option Held) (reach calls_left faults : D �
     pub makes : Makes holds reach calls_left faults before.disk after.disk moment block (event_of ev) before.end after.end
     pub outs_are : outs ≡ outs_of before.end moment block (event_of ev)
     pub counts_are : after.counts ≡ counted before.counts ev outs
+    pub noted : Noted (lines_of before.end moment block (event_of ev)) before.log after.log
 
   -- nothing of a step went out
   pub record NodeStops (before : Running D) (moment : ℕ) (block : List ℕ) (ev : Waiting) (stop : NodeStop) (after : Running D) : Type 0 where
     pub halts : Halts holds reach calls_left faults before.disk after.disk moment block (event_of ev) stop before.end after.end
     pub counts_are : after.counts ≡ before.counts
+    pub noted : HaltNoted stop (lines_of before.end moment block (event_of ev)) before.log after.log

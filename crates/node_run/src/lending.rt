@@ -1,4 +1,4 @@
-//! A node's end, its disk and its counts, lent to a turn.
+//! A node's end, its disk, its counts and its log, lent to a turn.
 
 ghost use Rattle.std.specs.Prelude.{◌≡◌, count_by};
 ghost use Rattle.node_run.specs.Steps.{counts_after, is_datagram, more};
@@ -6,6 +6,7 @@ ghost use Rattle.node_run.specs.Steps.{counts_after, is_datagram, more};
 use crate::end::{NodeEnd, NodeStop};
 use disk_core::Disk;
 use port_events::{EndStep, Event, Out, Outputs};
+use port_traits::Sink;
 use std::alloc::Global;
 
 /// What a node counts.
@@ -65,16 +66,17 @@ impl Counts {
     }
 }
 
-/// An end, its disk and its counts. All three are lent: whoever lent them has them back afterwards, as the last step left them.
+/// An end, its disk, its counts and its log. All four are lent: whoever lent them has them back afterwards, as the last step left them.
 #[derive(Drop)]
-pub(crate) struct Lent<'a, D: Disk> {
+pub(crate) struct Lent<'a, D: Disk, K: Sink> {
     pub alloc: Global,
     pub end: &'a mut NodeEnd,
     pub disk: &'a mut D,
     pub counts: &'a mut Counts,
+    pub log: &'a mut K,
 }
 
-impl<'a, D: Disk> EndStep for Lent<'a, D> {
+impl<'a, D: Disk, K: Sink> EndStep for Lent<'a, D, K> {
     ghost use Rattle.node_run.specs.Steps.{IsReady};
     ghost use Rattle.node_run.specs.Lending.{LentSteps, LentStops};
 
@@ -82,13 +84,15 @@ impl<'a, D: Disk> EndStep for Lent<'a, D> {
 
     ghost ready = { λ l. IsReady D.reach D.calls_left l.end.now l.disk.now };
 
-    ghost steps = { LentSteps D.holds D.reach D.calls_left D.faults };
+    ghost steps = { LentSteps K.faults K.taken D.holds D.reach D.calls_left D.faults };
 
-    ghost stops = { LentStops D.holds D.reach D.calls_left D.faults };
+    ghost stops = { LentStops K.faults K.taken D.holds D.reach D.calls_left D.faults };
 
     fn step(&mut self, now: u64, block: [u8; 16], event: Event) -> Result<Outputs, NodeStop> {
         let counts = self.counts.after(&event);
-        let outs = self.end.step(self.alloc, self.disk, now, block, event)?;
+        let outs = self
+            .end
+            .step(self.alloc, self.disk, self.log, now, block, event)?;
         *self.counts = counts.with_sent(outs.as_slice());
         Ok(outs)
     }

@@ -9,6 +9,7 @@ ghost use Rattle.port_turn.specs.Turns.{Turn, waits, asked, Turned, Broke};
 ghost use Rattle.port_turn.specs.Runs.{node, OpeningStopped};
 ghost use Rattle.node_run.specs.declared.end.NodeStop.{NodeStop};
 ghost use Rattle.node_run.specs.Faults.{node_fault, faults, NodeBlames, told};
+ghost use Rattle.node_run.specs.Logs.{sunk, Grows};
 ghost use Rattle.node_run.specs.Serves.{Begins, Serves, EndsShort};
 ghost use Rattle.node_run.specs.Steps.{store_of, running, IsReady, NodeSteps, NodeStops};
 
@@ -17,7 +18,7 @@ use crate::faults::{NodeFault, node_fault};
 use crate::lending::{Counts, Lent};
 use disk_core::Disk;
 use port_events::{EndStep, TurnFault};
-use port_traits::{Clock, Ether, Link, Uplink};
+use port_traits::{Clock, Ether, Link, Sink, Uplink};
 use port_turn::{open, serve, turn};
 use rand_core::Rng;
 use std::alloc::Global;
@@ -34,11 +35,12 @@ fn told(made: Result<(), TurnFault<NodeStop>>) -> Result<(), NodeFault>
 
 /// A turn of a node: reads the clock, takes a datagram, an Ethernet frame and a network frame, each where one waits, and gives a tick. Each
 /// is a step of the end with the generator's next block; what the step leaves is on the disk before anything of it goes out, and all of it
-/// is out before the next port is asked. The disk is as the last call on the end left it, and no earlier step answered a fault of the store.
+/// is out before the next port is asked. The log is told of each step that was made, before anything of it goes out. The disk is as the last
+/// call on the end left it, and no earlier step answered a fault of the store.
 ///
 /// It ends early with `StoreFault`, `LinkFault`, `EtherFault` or `UplinkFault` only where the count of that object rose; with `StoreFull`
 /// where the records of a step pass the limit; and with `NoMemory`. What it did until then stays done.
-pub fn node_turn<L: Link, E: Ether, U: Uplink, D: Disk, C: Clock, R: Rng>(
+pub fn node_turn<L: Link, E: Ether, U: Uplink, D: Disk, C: Clock, R: Rng, K: Sink>(
     alloc: Global,
     end: &mut NodeEnd,
     link: &mut L,
@@ -48,14 +50,16 @@ pub fn node_turn<L: Link, E: Ether, U: Uplink, D: Disk, C: Clock, R: Rng>(
     clock: &mut C,
     rng: &mut R,
     counts: &mut Counts,
+    log: &mut K,
 ) -> Result<(), NodeFault>
     requires running { (store_of end.old).journal.halted ≡ false }
     requires room { IsReady D.reach D.calls_left end.old disk.old }
     ensures running { OnOk result ((store_of end.new).journal.halted ≡ false) }
     ensures room { IsReady D.reach D.calls_left end.new disk.new }
-    ensures whole { OnOk result ((t : Turn) × Turned (NodeSteps D.holds D.reach D.calls_left D.faults) (R.stream rng.old) (R.stream rng.new) (running end.old disk.old counts.old) (running end.new disk.new counts.new) (given (L.given link.old) (E.given ether.old) (U.given up.old)) (given (L.given link.new) (E.given ether.new) (U.given up.new)) (waits (L.waiting link.old) (E.waiting ether.old) (U.waiting up.old)) (waits (L.waiting link.new) (E.waiting ether.new) (U.waiting up.new)) (asked (L.asked link.old) (E.asked ether.old) (U.asked up.old)) (asked (L.asked link.new) (E.asked ether.new) (U.asked up.new)) t × IfSome (C.gives clock.old) (λ moments. t.now ≡ moment moments)) }
+    ensures whole { OnOk result ((t : Turn) × Turned (NodeSteps D.holds D.reach D.calls_left D.faults) (R.stream rng.old) (R.stream rng.new) (running end.old disk.old counts.old (sunk (K.faults log.old) (K.taken log.old))) (running end.new disk.new counts.new (sunk (K.faults log.new) (K.taken log.new))) (given (L.given link.old) (E.given ether.old) (U.given up.old)) (given (L.given link.new) (E.given ether.new) (U.given up.new)) (waits (L.waiting link.old) (E.waiting ether.old) (U.waiting up.old)) (waits (L.waiting link.new) (E.waiting ether.new) (U.waiting up.new)) (asked (L.asked link.old) (E.asked ether.old) (U.asked up.old)) (asked (L.asked link.new) (E.asked ether.new) (U.asked up.new)) t × IfSome (C.gives clock.old) (λ moments. t.now ≡ moment moments)) }
     ensures clock { C.gives clock.new ≡ option_map passed (C.gives clock.old) }
-    ensures broke { IfErr result (λ fault. (why : TurnFault NodeStop) × (fault ≡ node_fault why) × Broke (NodeSteps D.holds D.reach D.calls_left D.faults) (NodeStops D.holds D.reach D.calls_left D.faults) why (C.gives clock.old) (R.stream rng.old) (running end.old disk.old counts.old) (running end.new disk.new counts.new) (given (L.given link.old) (E.given ether.old) (U.given up.old)) (given (L.given link.new) (E.given ether.new) (U.given up.new)) (waits (L.waiting link.old) (E.waiting ether.old) (U.waiting up.old)) (waits (L.waiting link.new) (E.waiting ether.new) (U.waiting up.new)) (asked (L.asked link.old) (E.asked ether.old) (U.asked up.old)) (asked (L.asked link.new) (E.asked ether.new) (U.asked up.new))) }
+    ensures broke { IfErr result (λ fault. (why : TurnFault NodeStop) × (fault ≡ node_fault why) × Broke (NodeSteps D.holds D.reach D.calls_left D.faults) (NodeStops D.holds D.reach D.calls_left D.faults) why (C.gives clock.old) (R.stream rng.old) (running end.old disk.old counts.old (sunk (K.faults log.old) (K.taken log.old))) (running end.new disk.new counts.new (sunk (K.faults log.new) (K.taken log.new))) (given (L.given link.old) (E.given ether.old) (U.given up.old)) (given (L.given link.new) (E.given ether.new) (U.given up.new)) (waits (L.waiting link.old) (E.waiting ether.old) (U.waiting up.old)) (waits (L.waiting link.new) (E.waiting ether.new) (U.waiting up.new)) (asked (L.asked link.old) (E.asked ether.old) (U.asked up.old)) (asked (L.asked link.new) (E.asked ether.new) (U.asked up.new))) }
+    ensures log { Grows (sunk (K.faults log.old) (K.taken log.old)) (sunk (K.faults log.new) (K.taken log.new)) }
     ensures cause { NodeBlames (faults (D.faults disk.old) (L.faults link.old) (E.faults ether.old) (U.faults up.old)) (faults (D.faults disk.new) (L.faults link.new) (E.faults ether.new) (U.faults up.new)) result }
 {
     let mut lent = Lent {
@@ -63,6 +67,7 @@ pub fn node_turn<L: Link, E: Ether, U: Uplink, D: Disk, C: Clock, R: Rng>(
         end,
         disk,
         counts,
+        log,
     };
     told(turn(alloc, &mut lent, link, ether, up, clock, rng))
 }
@@ -114,7 +119,7 @@ fn serve_opened<S: EndStep, L: Link, E: Ether, U: Uplink, C: Clock, R: Rng>(
 
 /// A node's run: it opens a tunnel first, where `opens` says so, at a moment of its own, and then makes so many turns, one like
 /// `node_turn` after the other. It ends early as a turn does.
-pub fn node_serve<L: Link, E: Ether, U: Uplink, D: Disk, C: Clock, R: Rng>(
+pub fn node_serve<L: Link, E: Ether, U: Uplink, D: Disk, C: Clock, R: Rng, K: Sink>(
     alloc: Global,
     end: &mut NodeEnd,
     link: &mut L,
@@ -126,13 +131,15 @@ pub fn node_serve<L: Link, E: Ether, U: Uplink, D: Disk, C: Clock, R: Rng>(
     turns: u64,
     opens: bool,
     counts: &mut Counts,
+    log: &mut K,
 ) -> Result<(), NodeFault>
     requires running { (store_of end.old).journal.halted ≡ false }
     requires room { IsReady D.reach D.calls_left end.old disk.old }
     ensures running { OnOk result ((store_of end.new).journal.halted ≡ false) }
     ensures room { IsReady D.reach D.calls_left end.new disk.new }
-    ensures whole { OnOk result (Serves (NodeSteps D.holds D.reach D.calls_left D.faults) opens turns (node (R.stream rng.old) (C.gives clock.old) (running end.old disk.old counts.old) (given (L.given link.old) (E.given ether.old) (U.given up.old)) (waits (L.waiting link.old) (E.waiting ether.old) (U.waiting up.old)) (asked (L.asked link.old) (E.asked ether.old) (U.asked up.old))) (node (R.stream rng.new) (C.gives clock.new) (running end.new disk.new counts.new) (given (L.given link.new) (E.given ether.new) (U.given up.new)) (waits (L.waiting link.new) (E.waiting ether.new) (U.waiting up.new)) (asked (L.asked link.new) (E.asked ether.new) (U.asked up.new)))) }
-    ensures short { IfErr result (λ fault. (why : TurnFault NodeStop) × (fault ≡ node_fault why) × EndsShort (NodeSteps D.holds D.reach D.calls_left D.faults) (NodeStops D.holds D.reach D.calls_left D.faults) why opens (node (R.stream rng.old) (C.gives clock.old) (running end.old disk.old counts.old) (given (L.given link.old) (E.given ether.old) (U.given up.old)) (waits (L.waiting link.old) (E.waiting ether.old) (U.waiting up.old)) (asked (L.asked link.old) (E.asked ether.old) (U.asked up.old))) (running end.new disk.new counts.new) (given (L.given link.new) (E.given ether.new) (U.given up.new)) (waits (L.waiting link.new) (E.waiting ether.new) (U.waiting up.new)) (asked (L.asked link.new) (E.asked ether.new) (U.asked up.new))) }
+    ensures whole { OnOk result (Serves (NodeSteps D.holds D.reach D.calls_left D.faults) opens turns (node (R.stream rng.old) (C.gives clock.old) (running end.old disk.old counts.old (sunk (K.faults log.old) (K.taken log.old))) (given (L.given link.old) (E.given ether.old) (U.given up.old)) (waits (L.waiting link.old) (E.waiting ether.old) (U.waiting up.old)) (asked (L.asked link.old) (E.asked ether.old) (U.asked up.old))) (node (R.stream rng.new) (C.gives clock.new) (running end.new disk.new counts.new (sunk (K.faults log.new) (K.taken log.new))) (given (L.given link.new) (E.given ether.new) (U.given up.new)) (waits (L.waiting link.new) (E.waiting ether.new) (U.waiting up.new)) (asked (L.asked link.new) (E.asked ether.new) (U.asked up.new)))) }
+    ensures short { IfErr result (λ fault. (why : TurnFault NodeStop) × (fault ≡ node_fault why) × EndsShort (NodeSteps D.holds D.reach D.calls_left D.faults) (NodeStops D.holds D.reach D.calls_left D.faults) why opens (node (R.stream rng.old) (C.gives clock.old) (running end.old disk.old counts.old (sunk (K.faults log.old) (K.taken log.old))) (given (L.given link.old) (E.given ether.old) (U.given up.old)) (waits (L.waiting link.old) (E.waiting ether.old) (U.waiting up.old)) (asked (L.asked link.old) (E.asked ether.old) (U.asked up.old))) (running end.new disk.new counts.new (sunk (K.faults log.new) (K.taken log.new))) (given (L.given link.new) (E.given ether.new) (U.given up.new)) (waits (L.waiting link.new) (E.waiting ether.new) (U.waiting up.new)) (asked (L.asked link.new) (E.asked ether.new) (U.asked up.new))) }
+    ensures log { Grows (sunk (K.faults log.old) (K.taken log.old)) (sunk (K.faults log.new) (K.taken log.new)) }
     ensures cause { NodeBlames (faults (D.faults disk.old) (L.faults link.old) (E.faults ether.old) (U.faults up.old)) (faults (D.faults disk.new) (L.faults link.new) (E.faults ether.new) (U.faults up.new)) result }
 {
     let mut lent = Lent {
@@ -140,6 +147,7 @@ pub fn node_serve<L: Link, E: Ether, U: Uplink, D: Disk, C: Clock, R: Rng>(
         end,
         disk,
         counts,
+        log,
     };
     told(serve_opened(alloc, &mut lent, link, ether, up, clock, rng, turns, opens))
 }

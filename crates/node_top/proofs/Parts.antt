@@ -15,6 +15,7 @@ use Rattle.end_model.specs.declared.tunnel.Config.{Config}
 use Rattle.node_words.specs.Plans.{Planned}
 use Rattle.node_run.specs.declared.end.NodeEnd.{NodeEnd}
 use Rattle.node_run.specs.declared.lending.Counts.{Counts}
+use Rattle.node_run.specs.Logs.{Sunk}
 use Rattle.node_run.specs.Opening.{NodeOpens}
 use Rattle.node_run.specs.Serves.{Serves}
 use Rattle.node_run.specs.Steps.{running, NodeSteps}
@@ -36,26 +37,27 @@ served_behind {S} steps opens turns outs old new mid w a gave waiting asking ser
       (subst (λ (x : Asked). Serves steps opens turns (node old.stream old.clock old.end mid w x) new) asking serves);
 }
 
-pub ran_so : {D : Type 0} (holds : D → Option Held) (reach calls_left faults : D → ℕ) (p : Planned) (counts : Counts) (disk mid now : D) (old new : Outside) (opened end : NodeEnd)
+pub ran_so : {D : Type 0} (holds : D → Option Held) (reach calls_left faults : D → ℕ) (p : Planned) (counts : Counts) (disk mid now : D) (log mid_log log' : Sunk) (old new : Outside) (opened end : NodeEnd)
     (outs : List Out) (config : Config) (key : List ℕ) (stream : Stream) (clock : Option Moments) → config ≡ config_of p → (key, stream) ≡ fill_bytes 16 old.stream
-    → clock ≡ option_map passed old.clock → NodeOpens holds reach calls_left faults p.identity.lac config key disk mid opened outs
+    → clock ≡ option_map passed old.clock → NodeOpens holds reach calls_left faults p.identity.lac config key disk mid log mid_log opened outs
     → GivesAndServes (NodeSteps holds reach calls_left faults) p.texts.opens p.numbers.turns outs
-    (node stream clock (running opened mid no_counts) old.given old.waits old.asked) (node new.stream new.clock (running end now counts) new.given new.waits new.asked)
-    → Ran holds reach calls_left faults p counts disk now old new
-ran_so {D} holds reach calls_left faults p counts disk mid now old new opened end outs config key stream clock configured drawn passes opens serves =
+    (node stream clock (running opened mid no_counts mid_log) old.given old.waits old.asked) (node new.stream new.clock (running end now counts log') new.given new.waits new.asked)
+    → Ran holds reach calls_left faults p counts disk now log log' old new
+ran_so {D} holds reach calls_left faults p counts disk mid now log mid_log log' old new opened end outs config key stream clock configured drawn passes opens serves =
     let first : key ≡ (fill_bytes 16 old.stream).0 = ap (λ (x : List ℕ × Stream). x.0) drawn in
     let later : stream ≡ (fill_bytes 16 old.stream).1 = ap (λ (x : List ℕ × Stream). x.1) drawn in
     record {
       opened = opened;
       mid = mid;
+      mid_log = mid_log;
       outs = outs;
-      opens = subst (λ (c : Config). NodeOpens holds reach calls_left faults p.identity.lac c (fill_bytes 16 old.stream).0 disk mid opened outs) configured
-          (subst (λ (k : List ℕ). NodeOpens holds reach calls_left faults p.identity.lac config k disk mid opened outs) first opens);
+      opens = subst (λ (c : Config). NodeOpens holds reach calls_left faults p.identity.lac c (fill_bytes 16 old.stream).0 disk mid log mid_log opened outs) configured
+          (subst (λ (k : List ℕ). NodeOpens holds reach calls_left faults p.identity.lac config k disk mid log mid_log opened outs) first opens);
       end = end;
       serves = subst (λ (x : Stream). GivesAndServes (NodeSteps holds reach calls_left faults) p.texts.opens p.numbers.turns outs
-          (node x (option_map passed old.clock) (running opened mid no_counts) old.given old.waits old.asked)
-          (node new.stream new.clock (running end now counts) new.given new.waits new.asked)) later
+          (node x (option_map passed old.clock) (running opened mid no_counts mid_log) old.given old.waits old.asked)
+          (node new.stream new.clock (running end now counts log') new.given new.waits new.asked)) later
           (subst (λ (x : Option Moments). GivesAndServes (NodeSteps holds reach calls_left faults) p.texts.opens p.numbers.turns outs
-          (node stream x (running opened mid no_counts) old.given old.waits old.asked)
-          (node new.stream new.clock (running end now counts) new.given new.waits new.asked)) passes serves);
+          (node stream x (running opened mid no_counts mid_log) old.given old.waits old.asked)
+          (node new.stream new.clock (running end now counts log') new.given new.waits new.asked)) passes serves);
     }

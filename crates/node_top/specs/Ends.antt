@@ -1,22 +1,15 @@
--- How a node ends, by its words and its run, and what the sink was given.
+-- How a node ends, by its words and its run, and what the sink and the log were given.
 use Rattle.std.specs.Prelude.{◌≡◌, ◌⊎◌, ℕ, Bool, true, false, List, take, codes, Option, Some, None, Result, Ok, Err, IfOk}
 use Rattle.std.specs.Io.KnownBytes.{Appends}
 use Rattle.wire_base.specs.Causes.{Rose}
 use Rattle.node_words.specs.Plans.{Planned}
 use Rattle.node_run.specs.declared.lending.Counts.{Counts}
 use Rattle.node_run.specs.Faults.{Faults}
+use Rattle.node_run.specs.Logs.{Sunk, Noted, Grows}
 use Rattle.node_top.specs.declared.exit.NodeExit.{NodeExit}
 use Rattle.node_top.specs.declared.exit.NodeExit.TheVariants as exits
 use Rattle.node_top.specs.Texts.{counts_text, exit_text}
 use Rattle.node_top.specs.Runs.{RunBlames}
-
--- the faults of the sink, and what it took
-pub record Sunk : Type 0 where
-  pub faults : ℕ
-  pub taken : Option (List ℕ)
-
-abbrev pub sunk : ℕ → Option (List ℕ) → Sunk
-sunk faults taken = record { faults = faults; taken = taken }
 
 -- a text was written with its exit, or the sink failed and took a prefix of the text
 abbrev pub Tells : NodeExit → NodeExit → List ℕ → Sunk → Sunk → Type 0
@@ -34,17 +27,30 @@ abbrev pub Finishes : Result Counts NodeExit → NodeExit → Sunk → Sunk → 
 Finishes (Ok counts) result old new = Tells result exits.Ok (counts_text counts) old new ⊎ Lacks result old new
 Finishes (Err exit) result old new = Tells result exit (exit_text exit) old new ⊎ Lacks result old new
 
--- a plan was run, and this was written of it
-pub record RunsPlan (IsRun : Counts → Type 0) (result : NodeExit) (sink sink' : Sunk) (old new : Faults) : Type 0 where
+-- of a run that ended early the log is told why, and of another one nothing more
+abbrev pub EndsLog : Result Counts NodeExit → Sunk → Sunk → Type 0
+EndsLog (Ok counts) old new = new ≡ old
+EndsLog (Err exit) old new = Noted (exit_text exit) old new
+
+-- a plan was run, which left the log so, and this was written of it
+pub record RunsPlan (IsRun : Counts → Sunk → Type 0) (result : NodeExit) (sink sink' log log' : Sunk) (old new : Faults) : Type 0 where
   pub ran : Result Counts NodeExit
-  pub is_run : IfOk ran IsRun
+  pub left : Sunk
+  pub is_run : IfOk ran (λ counts. IsRun counts left)
+  pub grows : Grows log left
   pub blames : RunBlames old new ran
   pub finishes : Finishes ran result sink sink'
+  pub ends_log : EndsLog ran left log'
+
+-- no disk, no port and no log was touched
+abbrev pub Untouched : Sunk → Sunk → Faults → Faults → Type 0
+Untouched log log' old new = (log' ≡ log) × (new ≡ old)
 
 -- What comes of the words of a node. Where a text is asked for, it is written, and where there is no plan, how the command is used; then no
--- disk and no port is touched, and so it is where memory was wanting for the words.
-abbrev pub NodeEnds : (Planned → Counts → Type 0) → Bool → Option Planned → NodeExit → Sunk → Sunk → Faults → Faults → Type 0
-NodeEnds IsRun true plan result sink sink' old new = (text : List ℕ) × Tells result exits.Ok text sink sink' × (new ≡ old)
-NodeEnds IsRun false None result sink sink' old new =
-    (Tells result exits.Usage (codes "usage: l2tp node\n") sink sink' ⊎ Lacks result sink sink') × (new ≡ old)
-NodeEnds IsRun false (Some p) result sink sink' old new = RunsPlan (IsRun p) result sink sink' old new ⊎ (Lacks result sink sink' × (new ≡ old))
+-- disk, no port and no log is touched, and so it is where memory was wanting for the words.
+abbrev pub NodeEnds : (Planned → Counts → Sunk → Type 0) → Bool → Option Planned → NodeExit → Sunk → Sunk → Sunk → Sunk → Faults → Faults → Type 0
+NodeEnds IsRun true plan result sink sink' log log' old new = (text : List ℕ) × Tells result exits.Ok text sink sink' × Untouched log log' old new
+NodeEnds IsRun false None result sink sink' log log' old new =
+    (Tells result exits.Usage (codes "usage: l2tp node\n") sink sink' ⊎ Lacks result sink sink') × Untouched log log' old new
+NodeEnds IsRun false (Some p) result sink sink' log log' old new =
+    RunsPlan (IsRun p) result sink sink' log log' old new ⊎ (Lacks result sink sink' × Untouched log log' old new)

@@ -22,6 +22,7 @@ use Rattle.node_run.specs.declared.lending.Counts.{Counts}
 use Rattle.node_run.specs.declared.opening.NodeUnopened.{NodeUnopened}
 use Rattle.node_run.specs.declared.opening.NodeUnopened.TheVariants.{Shut, Unsent}
 use Rattle.node_run.specs.Faults.{Faults}
+use Rattle.node_run.specs.Logs.{Sunk}
 use Rattle.node_run.specs.Opening.{NodeOpens}
 use Rattle.node_run.specs.Serves.{Serves}
 use Rattle.node_run.specs.Steps.{running, NodeSteps}
@@ -100,13 +101,14 @@ abbrev pub outside : Stream → Option Moments → Given → Waits → Asked →
 outside stream clock given waits asked = record { stream = stream; clock = clock; given = given; waits = waits; asked = asked }
 
 -- The run of a plan to its end: the clock is read and the end is opened over what the disk held, with the generator's first block for a key;
--- then it serves.
-pub record Ran {D : Type 0} (holds : D → Option Held) (reach calls_left faults : D → ℕ) (p : Planned) (counts : Counts) (disk now : D) (old new : Outside) : Type 0 where
+-- then it serves. The log is told of the start and of each step.
+pub record Ran {D : Type 0} (holds : D → Option Held) (reach calls_left faults : D → ℕ) (p : Planned) (counts : Counts) (disk now : D) (log log' : Sunk) (old new : Outside) : Type 0 where
   pub opened : NodeEnd
   pub mid : D
+  pub mid_log : Sunk
   pub outs : List Out
-  pub opens : NodeOpens holds reach calls_left faults p.identity.lac (config_of p) (fill_bytes 16 old.stream).0 disk mid opened outs
+  pub opens : NodeOpens holds reach calls_left faults p.identity.lac (config_of p) (fill_bytes 16 old.stream).0 disk mid log mid_log opened outs
   pub end : NodeEnd
   pub serves : GivesAndServes (NodeSteps holds reach calls_left faults) p.texts.opens p.numbers.turns outs
-      (node (fill_bytes 16 old.stream).1 (option_map passed old.clock) (running opened mid no_counts) old.given old.waits old.asked)
-      (node new.stream new.clock (running end now counts) new.given new.waits new.asked)
+      (node (fill_bytes 16 old.stream).1 (option_map passed old.clock) (running opened mid no_counts mid_log) old.given old.waits old.asked)
+      (node new.stream new.clock (running end now counts log') new.given new.waits new.asked)

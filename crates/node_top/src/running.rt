@@ -6,6 +6,7 @@ ghost use Rattle.port_turn.specs.Turns.{waits, asked};
 ghost use Rattle.port_turn.specs.Runs.{node};
 ghost use Rattle.node_words.specs.Plans.{planned};
 ghost use Rattle.node_run.specs.Faults.{faults};
+ghost use Rattle.node_run.specs.Logs.{sunk, Grows};
 ghost use Rattle.node_run.specs.Steps.{running, store_of, IsReady, NodeSteps};
 ghost use Rattle.node_top.specs.Runs.{config_of, of_opening, of_turn, of_serving, outside, RunBlames, Ran, GivesAndServes};
 
@@ -13,10 +14,10 @@ use crate::exit::NodeExit;
 use block_source::next_block;
 use disk_core::Disk;
 use end_model::Config;
-use node_run::{Counts, NodeEnd, NodeFault, NodeStop, NodeUnopened, node_serve};
+use node_run::{Counts, NodeEnd, NodeFault, NodeStop, NodeUnopened, logs_grow, node_serve};
 use node_words::Plan;
 use port_events::{Outputs, TurnFault, give_all};
-use port_traits::{Clock, Ether, Link, Uplink};
+use port_traits::{Clock, Ether, Link, Sink, Uplink};
 use rand_core::Rng;
 use std::alloc::Global;
 use stored_ends::OpenStop;
@@ -82,7 +83,7 @@ fn of_serving(fault: NodeFault) -> NodeExit
 }
 
 /// What the start of an end gives goes out, and then the node makes its turns.
-fn give_and_serve<L: Link, E: Ether, U: Uplink, D: Disk, C: Clock, R: Rng>(
+fn give_and_serve<L: Link, E: Ether, U: Uplink, D: Disk, C: Clock, R: Rng, O: Sink>(
     alloc: Global,
     end: &mut NodeEnd,
     outs: &Outputs,
@@ -95,16 +96,19 @@ fn give_and_serve<L: Link, E: Ether, U: Uplink, D: Disk, C: Clock, R: Rng>(
     turns: u64,
     opens: bool,
     counts: &mut Counts,
+    log: &mut O,
 ) -> Result<(), NodeExit>
     requires running { (store_of end.old).journal.halted ≡ false }
     requires room { IsReady D.reach D.calls_left end.old disk.old }
-    ensures served { OnOk result (GivesAndServes (NodeSteps D.holds D.reach D.calls_left D.faults) opens turns outs.now (node (R.stream rng.old) (C.gives clock.old) (running end.old disk.old counts.old) (given (L.given link.old) (E.given ether.old) (U.given up.old)) (waits (L.waiting link.old) (E.waiting ether.old) (U.waiting up.old)) (asked (L.asked link.old) (E.asked ether.old) (U.asked up.old))) (node (R.stream rng.new) (C.gives clock.new) (running end.new disk.new counts.new) (given (L.given link.new) (E.given ether.new) (U.given up.new)) (waits (L.waiting link.new) (E.waiting ether.new) (U.waiting up.new)) (asked (L.asked link.new) (E.asked ether.new) (U.asked up.new)))) }
+    ensures served { OnOk result (GivesAndServes (NodeSteps D.holds D.reach D.calls_left D.faults) opens turns outs.now (node (R.stream rng.old) (C.gives clock.old) (running end.old disk.old counts.old (sunk (O.faults log.old) (O.taken log.old))) (given (L.given link.old) (E.given ether.old) (U.given up.old)) (waits (L.waiting link.old) (E.waiting ether.old) (U.waiting up.old)) (asked (L.asked link.old) (E.asked ether.old) (U.asked up.old))) (node (R.stream rng.new) (C.gives clock.new) (running end.new disk.new counts.new (sunk (O.faults log.new) (O.taken log.new))) (given (L.given link.new) (E.given ether.new) (U.given up.new)) (waits (L.waiting link.new) (E.waiting ether.new) (U.waiting up.new)) (asked (L.asked link.new) (E.asked ether.new) (U.asked up.new)))) }
+    ensures grows { Grows (sunk (O.faults log.old) (O.taken log.old)) (sunk (O.faults log.new) (O.taken log.new)) }
     ensures cause { RunBlames (faults (D.faults disk.old) (L.faults link.old) (E.faults ether.old) (U.faults up.old)) (faults (D.faults disk.new) (L.faults link.new) (E.faults ether.new) (U.faults up.new)) result }
 {
+    logs_grow();
     match give_all(outs, link, ether, up) {
         Err(fault) => Err(of_giving(fault)),
         Ok(()) => match node_serve(
-            alloc, end, link, ether, up, disk, clock, rng, turns, opens, counts,
+            alloc, end, link, ether, up, disk, clock, rng, turns, opens, counts, log,
         ) {
             Err(fault) => Err(of_serving(fault)),
             Ok(()) => Ok(()),
@@ -114,7 +118,7 @@ fn give_and_serve<L: Link, E: Ether, U: Uplink, D: Disk, C: Clock, R: Rng>(
 
 /// Runs a plan: reads the clock once, opens the end of the plan over the disk, with the generator's first block, lets what its start gives go
 /// out, opens a tunnel where the plan says so, and makes the plan's turns. It gives the counts of these.
-pub(crate) fn run<L: Link, E: Ether, U: Uplink, D: Disk, C: Clock, R: Rng>(
+pub(crate) fn run<L: Link, E: Ether, U: Uplink, D: Disk, C: Clock, R: Rng, O: Sink>(
     alloc: Global,
     plan: Plan,
     link: &mut L,
@@ -123,16 +127,19 @@ pub(crate) fn run<L: Link, E: Ether, U: Uplink, D: Disk, C: Clock, R: Rng>(
     disk: &mut D,
     clock: &mut C,
     rng: &mut R,
+    log: &mut O,
 ) -> Result<Counts, NodeExit>
-    ensures ran { IfOk result (λ counts. Ran D.holds D.reach D.calls_left D.faults (planned plan) counts disk.old disk.new (outside (R.stream rng.old) (C.gives clock.old) (given (L.given link.old) (E.given ether.old) (U.given up.old)) (waits (L.waiting link.old) (E.waiting ether.old) (U.waiting up.old)) (asked (L.asked link.old) (E.asked ether.old) (U.asked up.old))) (outside (R.stream rng.new) (C.gives clock.new) (given (L.given link.new) (E.given ether.new) (U.given up.new)) (waits (L.waiting link.new) (E.waiting ether.new) (U.waiting up.new)) (asked (L.asked link.new) (E.asked ether.new) (U.asked up.new)))) }
+    ensures ran { IfOk result (λ counts. Ran D.holds D.reach D.calls_left D.faults (planned plan) counts disk.old disk.new (sunk (O.faults log.old) (O.taken log.old)) (sunk (O.faults log.new) (O.taken log.new)) (outside (R.stream rng.old) (C.gives clock.old) (given (L.given link.old) (E.given ether.old) (U.given up.old)) (waits (L.waiting link.old) (E.waiting ether.old) (U.waiting up.old)) (asked (L.asked link.old) (E.asked ether.old) (U.asked up.old))) (outside (R.stream rng.new) (C.gives clock.new) (given (L.given link.new) (E.given ether.new) (U.given up.new)) (waits (L.waiting link.new) (E.waiting ether.new) (U.waiting up.new)) (asked (L.asked link.new) (E.asked ether.new) (U.asked up.new)))) }
+    ensures grows { Grows (sunk (O.faults log.old) (O.taken log.old)) (sunk (O.faults log.new) (O.taken log.new)) }
     ensures cause { RunBlames (faults (D.faults disk.old) (L.faults link.old) (E.faults ether.old) (U.faults up.old)) (faults (D.faults disk.new) (L.faults link.new) (E.faults ether.new) (U.faults up.new)) result }
 {
+    logs_grow();
     let _moment = clock.now();
     let key = next_block(rng);
     let lac = plan.lac;
     let turns = plan.turns;
     let opens = plan.opens;
-    match NodeEnd::open(alloc, disk, lac, config_of(plan), key) {
+    match NodeEnd::open(alloc, disk, log, lac, config_of(plan), key) {
         Err(why) => Err(of_opening(why)),
         Ok((end, outs)) => {
             let mut end = end;
@@ -154,6 +161,7 @@ pub(crate) fn run<L: Link, E: Ether, U: Uplink, D: Disk, C: Clock, R: Rng>(
                 turns,
                 opens,
                 &mut counts,
+                log,
             ) {
                 Err(exit) => Err(exit),
                 Ok(()) => Ok(counts),

@@ -4,16 +4,17 @@ ghost use Rattle.std.specs.Prelude.{false, map, string_bytes};
 ghost use Rattle.port_events.specs.Feeding.{given};
 ghost use Rattle.port_turn.specs.Turns.{waits, asked};
 ghost use Rattle.node_run.specs.Faults.{faults};
+ghost use Rattle.node_run.specs.Logs.{sunk};
 ghost use Rattle.node_words.specs.Plans.{plan_of};
 ghost use Rattle.node_command.specs.Answers.{asks};
 ghost use Rattle.node_top.specs.Runs.{outside, Ran};
-ghost use Rattle.node_top.specs.Ends.{sunk, Tells, Finishes, NodeEnds};
+ghost use Rattle.node_top.specs.Ends.{Tells, Finishes, EndsLog, NodeEnds};
 
 use crate::exit::NodeExit;
 use crate::running::run;
 use crate::telling::{counts_text, exit_text};
 use disk_core::Disk;
-use node_run::Counts;
+use node_run::{Counts, write_lines, write_lost};
 use node_words::{NODE_HELP, PlanError, asks_for_help, asks_for_version, read_plan};
 use port_traits::{Clock, Ether, Link, Sink, Uplink, write_all};
 use rand_core::Rng;
@@ -32,9 +33,15 @@ fn tell<K: Sink>(sink: &mut K, text: &[u8], exit: NodeExit) -> NodeExit
     }
 }
 
-/// Writes what a run comes to.
-fn finish<K: Sink>(alloc: Global, sink: &mut K, ran: Result<Counts, NodeExit>) -> NodeExit
-    ensures { Finishes ran result (sunk (K.faults sink.old) (K.taken sink.old)) (sunk (K.faults sink.new) (K.taken sink.new)) }
+/// Writes what a run comes to. Where it ended early the log has the line that tells why, too.
+fn finish<K: Sink, O: Sink>(
+    alloc: Global,
+    sink: &mut K,
+    log: &mut O,
+    ran: Result<Counts, NodeExit>,
+) -> NodeExit
+    ensures report { Finishes ran result (sunk (K.faults sink.old) (K.taken sink.old)) (sunk (K.faults sink.new) (K.taken sink.new)) }
+    ensures log { EndsLog ran (sunk (O.faults log.old) (O.taken log.old)) (sunk (O.faults log.new) (O.taken log.new)) }
 {
     match ran {
         Ok(counts) => match counts_text(alloc, counts) {
@@ -42,14 +49,20 @@ fn finish<K: Sink>(alloc: Global, sink: &mut K, ran: Result<Counts, NodeExit>) -
             Err(_) => NodeExit::NoMemory,
         },
         Err(exit) => match exit_text(alloc, exit) {
-            Ok(text) => tell(sink, text.as_slice(), exit),
-            Err(_) => NodeExit::NoMemory,
+            Ok(text) => {
+                write_lines(log, text.as_slice());
+                tell(sink, text.as_slice(), exit)
+            }
+            Err(_) => {
+                write_lost(log);
+                NodeExit::NoMemory
+            }
         },
     }
 }
 
 /// Runs the plan of words that ask for no text, or writes how the command is used.
-fn run_words<L: Link, E: Ether, U: Uplink, D: Disk, C: Clock, R: Rng, K: Sink>(
+fn run_words<L: Link, E: Ether, U: Uplink, D: Disk, C: Clock, R: Rng, K: Sink, O: Sink>(
     alloc: Global,
     words: &[String],
     link: &mut L,
@@ -59,13 +72,14 @@ fn run_words<L: Link, E: Ether, U: Uplink, D: Disk, C: Clock, R: Rng, K: Sink>(
     clock: &mut C,
     rng: &mut R,
     sink: &mut K,
+    log: &mut O,
 ) -> NodeExit
-    ensures { NodeEnds (λ p counts. Ran D.holds D.reach D.calls_left D.faults p counts disk.old disk.new (outside (R.stream rng.old) (C.gives clock.old) (given (L.given link.old) (E.given ether.old) (U.given up.old)) (waits (L.waiting link.old) (E.waiting ether.old) (U.waiting up.old)) (asked (L.asked link.old) (E.asked ether.old) (U.asked up.old))) (outside (R.stream rng.new) (C.gives clock.new) (given (L.given link.new) (E.given ether.new) (U.given up.new)) (waits (L.waiting link.new) (E.waiting ether.new) (U.waiting up.new)) (asked (L.asked link.new) (E.asked ether.new) (U.asked up.new)))) false (plan_of (map string_bytes words.now)) result (sunk (K.faults sink.old) (K.taken sink.old)) (sunk (K.faults sink.new) (K.taken sink.new)) (faults (D.faults disk.old) (L.faults link.old) (E.faults ether.old) (U.faults up.old)) (faults (D.faults disk.new) (L.faults link.new) (E.faults ether.new) (U.faults up.new)) }
+    ensures { NodeEnds (λ p counts left. Ran D.holds D.reach D.calls_left D.faults p counts disk.old disk.new (sunk (O.faults log.old) (O.taken log.old)) left (outside (R.stream rng.old) (C.gives clock.old) (given (L.given link.old) (E.given ether.old) (U.given up.old)) (waits (L.waiting link.old) (E.waiting ether.old) (U.waiting up.old)) (asked (L.asked link.old) (E.asked ether.old) (U.asked up.old))) (outside (R.stream rng.new) (C.gives clock.new) (given (L.given link.new) (E.given ether.new) (U.given up.new)) (waits (L.waiting link.new) (E.waiting ether.new) (U.waiting up.new)) (asked (L.asked link.new) (E.asked ether.new) (U.asked up.new)))) false (plan_of (map string_bytes words.now)) result (sunk (K.faults sink.old) (K.taken sink.old)) (sunk (K.faults sink.new) (K.taken sink.new)) (sunk (O.faults log.old) (O.taken log.old)) (sunk (O.faults log.new) (O.taken log.new)) (faults (D.faults disk.old) (L.faults link.old) (E.faults ether.old) (U.faults up.old)) (faults (D.faults disk.new) (L.faults link.new) (E.faults ether.new) (U.faults up.new)) }
 {
     match read_plan(alloc, words) {
         Ok(plan) => {
-            let ran = run(alloc, plan, link, ether, up, disk, clock, rng);
-            finish(alloc, sink, ran)
+            let ran = run(alloc, plan, link, ether, up, disk, clock, rng, log);
+            finish(alloc, sink, log, ran)
         }
         Err(PlanError::Usage) => tell(sink, USAGE, NodeExit::Usage),
         Err(PlanError::NoMemory) => NodeExit::NoMemory,
@@ -73,14 +87,17 @@ fn run_words<L: Link, E: Ether, U: Uplink, D: Disk, C: Clock, R: Rng, K: Sink>(
 }
 
 /// Runs the node that the words ask for, of which the first is `node`: over a link, an Ethernet port and an uplink, the disk of its store, a
-/// clock, and a generator of random bytes. With `--help` or `--version` among the words its help, or this version, is written. Words that are
+/// clock, and a generator of random bytes; an operator reads its log. With `--help` or `--version` among the words its help, or this version, is written. Words that are
 /// no plan have how the command is used written.
 ///
 /// A node reads the clock once and opens its end over the disk, with the generator's first 16 bytes for the key of a LAC's cookies; what the
 /// start gives goes out. It opens a tunnel where `--open` says so, and makes so many turns. At their end it writes how many turns it made, how
 /// many datagrams, frames and network frames it took and how many datagrams it sent, in three lines. Where it ends early it writes a line that
 /// tells why; each fault is told only where the count of that object rose.
-pub fn node_top<L: Link, E: Ether, U: Uplink, D: Disk, C: Clock, R: Rng, K: Sink>(
+///
+/// The log has a line for each tunnel and each call that comes up or ends, and, last, why the node ended early. It has no say in what the node
+/// does or answers, also where it fails or memory is wanting for its lines.
+pub fn node_top<L: Link, E: Ether, U: Uplink, D: Disk, C: Clock, R: Rng, K: Sink, O: Sink>(
     alloc: Global,
     words: &[String],
     version: &[u8],
@@ -91,8 +108,9 @@ pub fn node_top<L: Link, E: Ether, U: Uplink, D: Disk, C: Clock, R: Rng, K: Sink
     clock: &mut C,
     rng: &mut R,
     sink: &mut K,
+    log: &mut O,
 ) -> NodeExit
-    ensures { NodeEnds (λ p counts. Ran D.holds D.reach D.calls_left D.faults p counts disk.old disk.new (outside (R.stream rng.old) (C.gives clock.old) (given (L.given link.old) (E.given ether.old) (U.given up.old)) (waits (L.waiting link.old) (E.waiting ether.old) (U.waiting up.old)) (asked (L.asked link.old) (E.asked ether.old) (U.asked up.old))) (outside (R.stream rng.new) (C.gives clock.new) (given (L.given link.new) (E.given ether.new) (U.given up.new)) (waits (L.waiting link.new) (E.waiting ether.new) (U.waiting up.new)) (asked (L.asked link.new) (E.asked ether.new) (U.asked up.new)))) (asks words.now) (plan_of (map string_bytes words.now)) result (sunk (K.faults sink.old) (K.taken sink.old)) (sunk (K.faults sink.new) (K.taken sink.new)) (faults (D.faults disk.old) (L.faults link.old) (E.faults ether.old) (U.faults up.old)) (faults (D.faults disk.new) (L.faults link.new) (E.faults ether.new) (U.faults up.new)) }
+    ensures { NodeEnds (λ p counts left. Ran D.holds D.reach D.calls_left D.faults p counts disk.old disk.new (sunk (O.faults log.old) (O.taken log.old)) left (outside (R.stream rng.old) (C.gives clock.old) (given (L.given link.old) (E.given ether.old) (U.given up.old)) (waits (L.waiting link.old) (E.waiting ether.old) (U.waiting up.old)) (asked (L.asked link.old) (E.asked ether.old) (U.asked up.old))) (outside (R.stream rng.new) (C.gives clock.new) (given (L.given link.new) (E.given ether.new) (U.given up.new)) (waits (L.waiting link.new) (E.waiting ether.new) (U.waiting up.new)) (asked (L.asked link.new) (E.asked ether.new) (U.asked up.new)))) (asks words.now) (plan_of (map string_bytes words.now)) result (sunk (K.faults sink.old) (K.taken sink.old)) (sunk (K.faults sink.new) (K.taken sink.new)) (sunk (O.faults log.old) (O.taken log.old)) (sunk (O.faults log.new) (O.taken log.new)) (faults (D.faults disk.old) (L.faults link.old) (E.faults ether.old) (U.faults up.old)) (faults (D.faults disk.new) (L.faults link.new) (E.faults ether.new) (U.faults up.new)) }
 {
     if asks_for_help(words) {
         return tell(sink, NODE_HELP.as_bytes(), NodeExit::Ok);
@@ -100,5 +118,5 @@ pub fn node_top<L: Link, E: Ether, U: Uplink, D: Disk, C: Clock, R: Rng, K: Sink
     if asks_for_version(words) {
         return tell(sink, version, NodeExit::Ok);
     }
-    run_words(alloc, words, link, ether, up, disk, clock, rng, sink)
+    run_words(alloc, words, link, ether, up, disk, clock, rng, sink, log)
 }
