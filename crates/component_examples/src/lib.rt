@@ -8,11 +8,15 @@
 #[cfg(test)]
 mod checkpoint_journal_tests;
 #[cfg(test)]
+mod compaction_tests;
+#[cfg(test)]
 mod disk_core_tests;
 #[cfg(test)]
 mod id_index_tests;
 #[cfg(test)]
 mod id_source_tests;
+#[cfg(test)]
+mod judging;
 #[cfg(test)]
 mod node_notes_tests;
 #[cfg(test)]

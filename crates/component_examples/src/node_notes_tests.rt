@@ -1,31 +1,31 @@
+use crate::judging::{bytes_of, none_is_wrong};
 use end_model::{
     Accepted, Closed, ClosedBy, Confirmed, Connected, Declined, EndHeard, EndSilent, EndTold,
     FirstUp, Move, NrRead, Out, Place, Refused, Rejected, SecondUp,
 };
 use node_notes::push_notes;
 use std::alloc::Global;
-use std::test::Fail;
-use wire_base::{Bytes, Cause, NoMemory, Why};
+use wire_base::{Cause, Why};
 
 // The lines were written by hand, by the table of forms in docs/notes.md.
-//
-// Functions without clauses: a test that calls them is proved at little cost.
 
 const TAKEN: Place = Place { number: 71 };
 
 const GIVEN: Place = Place { number: 72 };
 
 /// Whether a step has these lines, behind what was there before.
-fn writes(alloc: Global, moves: &[Move], outputs: &[Out], lines: &[u8]) -> Result<bool, NoMemory> {
-    let mut out = Bytes::from_slice(alloc, b"> ")?;
-    push_notes(&mut out, moves, outputs)?;
-    let mut wanted = Bytes::from_slice(alloc, b"> ")?;
-    wanted.push_slice(lines)?;
-    Ok(out.as_slice() == wanted.as_slice())
+fn writes(alloc: Global, moves: &[Move], outputs: &[Out], lines: &[u8]) -> bool {
+    let mut out = bytes_of(alloc, b"> ");
+    let is_whole = push_notes(&mut out, moves, outputs).is_ok();
+    match out.as_slice() {
+        [b'>', b' ', told @ ..] => is_whole && told == lines,
+        _ => false,
+    }
 }
 
-fn row(step: Move, lines: &'static [u8]) -> Option<(Move, &'static [u8])> {
-    Some((step, lines))
+/// Whether a move has these lines, where the step tells no cause.
+fn row(alloc: Global, step: Move, lines: &[u8]) -> bool {
+    writes(alloc, &[step], &[], lines)
 }
 
 fn connected(tunnel: u16, peer: u32, remote: u16) -> Move {
@@ -178,66 +178,85 @@ fn because(cause: Cause) -> Out {
     Out::Cause { cause }
 }
 
-/// A move, and its line where the step tells no cause.
-fn row_at(at: u8) -> Option<(Move, &'static [u8])> {
+/// Whether the row of this number is right.
+fn row_at(alloc: Global, at: u8) -> bool {
     match at {
         0 => row(
+            alloc,
             connected(3, 0xc000_0207, 12),
             b"tunnel 3 up peer 192.0.2.7 remote 12\n",
         ),
         1 => row(
+            alloc,
             confirmed(65535, 0x0aff_0109, 1),
             b"tunnel 65535 up peer 10.255.1.9 remote 1\n",
         ),
         2 => row(
+            alloc,
             closed(4, true, 2, Some(3)),
             b"tunnel 4 closed result 2 error 3\n",
         ),
-        3 => row(closed(5, false, 1, None), b"tunnel 5 closed result 1\n"),
-        4 => row(rejected(6, 4, None), b"tunnel 6 closed result 4\n"),
-        5 => row(closed_by(7, true), b"tunnel 7 closed by peer\n"),
-        6 => row(closed_by(8, false), b"tunnel 8 closed by peer\n"),
-        7 => row(cleared(9, true), b"tunnel 9 lost\n"),
-        8 => row(cleared(10, false), b"tunnel 10 removed\n"),
+        3 => row(
+            alloc,
+            closed(5, false, 1, None),
+            b"tunnel 5 closed result 1\n",
+        ),
+        4 => row(alloc, rejected(6, 4, None), b"tunnel 6 closed result 4\n"),
+        5 => row(alloc, closed_by(7, true), b"tunnel 7 closed by peer\n"),
+        6 => row(alloc, closed_by(8, false), b"tunnel 8 closed by peer\n"),
+        7 => row(alloc, cleared(9, true), b"tunnel 9 lost\n"),
+        8 => row(alloc, cleared(10, false), b"tunnel 10 removed\n"),
         9 => row(
+            alloc,
             first_up(3, 17, 40, [2, 0, 0, 0, 0x0b, 0xc5]),
             b"call 17 up tunnel 3 remote 40 subscriber 02:00:00:00:0b:c5\n",
         ),
         10 => row(
+            alloc,
             first_up(3, 18, 41, [0xff, 0xff, 0, 0, 0, 0x46]),
             b"call 18 up tunnel 3 remote 41 subscriber ff:ff:00:00:00:46\n",
         ),
-        11 => row(second_up(3, 19, 42), b"call 19 up tunnel 3 remote 42\n"),
-        12 => row(told(3, 20, 3, None), b"call 20 gone tunnel 3 result 3\n"),
+        11 => row(
+            alloc,
+            second_up(3, 19, 42),
+            b"call 19 up tunnel 3 remote 42\n",
+        ),
+        12 => row(
+            alloc,
+            told(3, 20, 3, None),
+            b"call 20 gone tunnel 3 result 3\n",
+        ),
         13 => row(
+            alloc,
             told(4, 21, 2, Some(5)),
             b"call 21 gone tunnel 4 result 2 error 5\n",
         ),
-        14 => row(heard(5, 65536), b"call 65536 gone tunnel 5 by peer\n"),
-        15 => row(silent(6, 22), b"call 22 gone tunnel 6\n"),
-        16 => row(accepted(11), b""),
-        17 => row(declined(), b""),
-        18 => row(refused(12), b""),
-        19 => row(read(13), b""),
-        _ => None,
+        14 => row(
+            alloc,
+            heard(5, 65536),
+            b"call 65536 gone tunnel 5 by peer\n",
+        ),
+        15 => row(alloc, silent(6, 22), b"call 22 gone tunnel 6\n"),
+        16 => row(alloc, accepted(11), b""),
+        17 => row(alloc, declined(), b""),
+        18 => row(alloc, refused(12), b""),
+        19 => row(alloc, read(13), b""),
+        _ => false,
     }
 }
 
 /// The first of the rows whose move has other lines.
-fn first_wrong(alloc: Global) -> Result<Option<u8>, NoMemory> {
-    for at in 0..20 {
-        let Some((step, lines)) = row_at(at) else {
-            return Ok(Some(at));
-        };
-        if !writes(alloc, &[step], &[], lines)? {
-            return Ok(Some(at));
+fn first_wrong(alloc: Global) -> Option<u64> {
+    for at in 0..20u8 {
+        if !row_at(alloc, at) {
+            return Some(u64::from(at));
         }
     }
-    Ok(None)
+    None
 }
 
 /// A tick: what it tells of two tunnels and of calls of a third, each with its own cause. What is refused or declined has its cause too.
-fn tick_is_told(alloc: Global) -> Result<bool, NoMemory> {
+fn tick_is_told(alloc: Global) -> bool {
     let moves = [
         cleared(1, true),
         told(3, 23, 10, None),
@@ -267,18 +286,23 @@ fn tick_is_told(alloc: Global) -> Result<bool, NoMemory> {
     )
 }
 
-/// Datagrams of strangers, and a cause without a move: no line.
-fn strangers_are_passed_over(alloc: Global) -> Result<bool, NoMemory> {
+/// Datagrams of strangers: no line.
+fn strangers_are_passed_over(alloc: Global) -> bool {
     let moves = [declined(), declined(), accepted(14), read(14), refused(14)];
     let outputs = [because(Cause::Secret), because(Cause::Tunnels)];
-    Ok(writes(alloc, &moves, &outputs, b"")? && writes(alloc, &[], &[because(Cause::Ids)], b"")?)
+    writes(alloc, &moves, &outputs, b"")
+}
+
+/// A cause without a move: no line.
+fn a_cause_is_passed_over(alloc: Global) -> bool {
+    writes(alloc, &[], &[because(Cause::Ids)], b"")
 }
 
 #[test]
-fn lines_of_steps(rt: HostRuntime) -> Result<(), Fail> {
+fn lines_of_steps(rt: HostRuntime) {
     let alloc = rt.alloc();
-    assert!(rt; first_wrong(alloc)? == None);
-    assert!(rt; tick_is_told(alloc)?);
-    assert!(rt; strangers_are_passed_over(alloc)?);
-    Ok(())
+    none_is_wrong(&rt, first_wrong(alloc));
+    assert!(rt; tick_is_told(alloc));
+    assert!(rt; strangers_are_passed_over(alloc));
+    assert!(rt; a_cause_is_passed_over(alloc));
 }

@@ -1,16 +1,15 @@
 use pppoe_session::*;
 use std::alloc::Global;
-use std::test::Fail;
-use wire_base::{Bytes, NoMemory};
+use wire_base::Bytes;
 
 const HOST: [u8; 6] = [2, 0, 0, 0, 0, 1];
 
 const OTHER: [u8; 6] = [2, 0, 0, 0, 0, 2];
 
-// Functions without clauses: a test that calls them is proved at little cost.
+// A test fails where memory is wanting: what has no HostUniq then is no repeat of what has one.
 
-fn uniq_of(alloc: Global, text: &[u8]) -> Result<Option<Bytes>, NoMemory> {
-    Ok(Some(Bytes::from_slice(alloc, text)?))
+fn uniq_of(alloc: Global, text: &[u8]) -> Option<Bytes> {
+    Bytes::from_slice(alloc, text).ok()
 }
 
 fn admits(table: &mut Table, mac: [u8; 6], session: u16, uniq: Option<Bytes>) -> bool {
@@ -33,20 +32,39 @@ fn drops(table: &mut Table, session: u16) -> bool {
     table.drop_one(session)
 }
 
+/// A host gets the session 1, and the session 7 with a HostUniq; nobody else gets the first one.
+fn admits_both(table: &mut Table, uniq: Option<Bytes>) -> bool {
+    let is_first = admits(table, HOST, 1, None);
+    let is_held = is_taken(table, OTHER, 1);
+    let holders = [holds(table, 1), holds(table, 2)];
+    let is_second = admits(table, HOST, 7, uniq);
+    is_first && is_held && is_second && holders == [Some(HOST), None]
+}
+
+/// Who repeats a request, and who doesn't.
+fn repeats(alloc: Global, table: &Table) -> [Option<u16>; 4] {
+    let uniq = uniq_of(alloc, b"ab");
+    let stranger = uniq_of(alloc, b"ac");
+    [
+        repeat(table, HOST, &None),
+        repeat(table, HOST, &uniq),
+        repeat(table, HOST, &stranger),
+        repeat(table, OTHER, &None),
+    ]
+}
+
+/// The session 1 goes, once.
+fn drops_one(table: &mut Table) -> bool {
+    let is_dropped = drops(table, 1);
+    let again = drops(table, 1);
+    is_dropped && !again && repeat(table, HOST, &None) == None
+}
+
 #[test]
-fn sessions_and_repeats(rt: HostRuntime) -> Result<(), Fail> {
-    let mut table = Table::new(rt.alloc());
-    let uniq = uniq_of(rt.alloc(), b"ab")?;
-    let stranger = uniq_of(rt.alloc(), b"ac")?;
-    assert!(rt; admits(&mut table, HOST, 1, None));
-    assert!(rt; is_taken(&mut table, OTHER, 1));
-    assert!(rt; holds(&table, 1) == Some(HOST) && holds(&table, 2) == None);
-    assert!(rt; admits(&mut table, HOST, 7, uniq_of(rt.alloc(), b"ab")?));
-    assert!(rt; repeat(&table, HOST, &None) == Some(1));
-    assert!(rt; repeat(&table, HOST, &uniq) == Some(7));
-    assert!(rt; repeat(&table, HOST, &stranger) == None && repeat(&table, OTHER, &None) == None);
-    assert!(rt; drops(&mut table, 1));
-    assert!(rt; !drops(&mut table, 1));
-    assert!(rt; repeat(&table, HOST, &None) == None);
-    Ok(())
+fn sessions_and_repeats(rt: HostRuntime) {
+    let alloc = rt.alloc();
+    let mut table = Table::new(alloc);
+    assert!(rt; admits_both(&mut table, uniq_of(alloc, b"ab")));
+    assert!(rt; repeats(alloc, &table) == [Some(1), Some(7), None, None]);
+    assert!(rt; drops_one(&mut table));
 }

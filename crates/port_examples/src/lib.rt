@@ -5,6 +5,8 @@
 #[cfg(test)]
 mod file_tests;
 #[cfg(test)]
+mod judging;
+#[cfg(test)]
 mod memory_tests;
 #[cfg(test)]
 mod stream_tests;

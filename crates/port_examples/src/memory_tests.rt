@@ -1,35 +1,42 @@
+use crate::judging::bytes_of;
 use memory_ports::{MemoryEther, MemoryLink, MemoryUplink, SteadyEther, SteadyLink, SteadyUplink};
 use port_traits::{
     Datagram, Datagrams, Ether, Fails, Frames, Link, LowerFrame, LowerFrames, Uplink,
 };
 use std::alloc::Global;
-use std::test::Fail;
-use wire_base::{Bytes, NoMemory};
 
 /// One datagram of 3,000 bytes.
-fn datagrams(alloc: Global) -> Result<Datagrams, NoMemory> {
+fn datagrams(alloc: Global) -> Datagrams {
     let mut waiting = Datagrams::new(alloc);
-    let bytes = Bytes::from_slice(alloc, &[7u8; 3000])?;
-    waiting.push(Datagram { peer: 9, bytes })?;
-    Ok(waiting)
+    let bytes = bytes_of(alloc, &[7u8; 3000]);
+    let _pushed = waiting.push(Datagram { peer: 9, bytes });
+    waiting
 }
 
 /// One frame of 3 bytes.
-fn frames(alloc: Global) -> Result<Frames, NoMemory> {
+fn frames(alloc: Global) -> Frames {
     let mut waiting = Frames::new(alloc);
-    waiting.push(Bytes::from_slice(alloc, b"abc")?)?;
-    Ok(waiting)
+    let _pushed = waiting.push(bytes_of(alloc, b"abc"));
+    waiting
 }
 
 /// One network frame of 3 bytes.
-fn lower_frames(alloc: Global) -> Result<LowerFrames, NoMemory> {
+fn lower_frames(alloc: Global) -> LowerFrames {
     let mut waiting = LowerFrames::new(alloc);
-    let frame = Bytes::from_slice(alloc, b"abc")?;
-    waiting.push(LowerFrame {
+    let frame = bytes_of(alloc, b"abc");
+    let _pushed = waiting.push(LowerFrame {
         session: 258,
         frame,
-    })?;
-    Ok(waiting)
+    });
+    waiting
+}
+
+/// That the call of this number fails.
+fn fails_at(alloc: Global, call: u64) -> Fails {
+    match Fails::from_slice(alloc, &[call]) {
+        Ok(fails) => fails,
+        Err(_) => Fails::new(alloc),
+    }
 }
 
 /// Which of three calls of a link fail: two that take, and one that sends.
@@ -61,22 +68,19 @@ fn calls_of_uplink<U: Uplink>(up: &mut U) -> [bool; 3] {
 }
 
 /// Which calls of a link fail where the call of this number does.
-fn link_failing(alloc: Global, call: u64) -> Result<[bool; 3], NoMemory> {
-    let waiting = datagrams(alloc)?;
-    let fails = Fails::from_slice(alloc, &[call])?;
-    Ok(calls_of_link(&mut MemoryLink::new(alloc, waiting, fails)))
+fn link_failing(alloc: Global, call: u64) -> [bool; 3] {
+    let mut link = MemoryLink::new(alloc, datagrams(alloc), fails_at(alloc, call));
+    calls_of_link(&mut link)
 }
 
-fn ether_failing(alloc: Global, call: u64) -> Result<[bool; 3], NoMemory> {
-    let waiting = frames(alloc)?;
-    let fails = Fails::from_slice(alloc, &[call])?;
-    Ok(calls_of_ether(&mut MemoryEther::new(alloc, waiting, fails)))
+fn ether_failing(alloc: Global, call: u64) -> [bool; 3] {
+    let mut ether = MemoryEther::new(alloc, frames(alloc), fails_at(alloc, call));
+    calls_of_ether(&mut ether)
 }
 
-fn uplink_failing(alloc: Global, call: u64) -> Result<[bool; 3], NoMemory> {
-    let waiting = lower_frames(alloc)?;
-    let fails = Fails::from_slice(alloc, &[call])?;
-    Ok(calls_of_uplink(&mut MemoryUplink::new(alloc, waiting, fails)))
+fn uplink_failing(alloc: Global, call: u64) -> [bool; 3] {
+    let mut up = MemoryUplink::new(alloc, lower_frames(alloc), fails_at(alloc, call));
+    calls_of_uplink(&mut up)
 }
 
 /// Which of three calls are to fail where the call of this number is.
@@ -85,51 +89,50 @@ fn expected(call: u64) -> [bool; 3] {
 }
 
 #[test]
-fn each_call_fails_in_turn(rt: HostRuntime) -> Result<(), Fail> {
+fn each_call_fails_in_turn(rt: HostRuntime) {
     let alloc = rt.alloc();
     for call in 1..5u64 {
-        assert!(rt; link_failing(alloc, call)? == expected(call));
-        assert!(rt; ether_failing(alloc, call)? == expected(call));
-        assert!(rt; uplink_failing(alloc, call)? == expected(call));
+        assert!(rt; link_failing(alloc, call) == expected(call));
+        assert!(rt; ether_failing(alloc, call) == expected(call));
+        assert!(rt; uplink_failing(alloc, call) == expected(call));
     }
-    Ok(())
 }
 
 /// How many datagrams a steady link was given.
-fn given_to_link(alloc: Global) -> Result<Option<usize>, NoMemory> {
-    let waiting = datagrams(alloc)?;
-    let mut link = SteadyLink::new(alloc, waiting);
+fn given_to_link(alloc: Global) -> Option<usize> {
+    let mut link = SteadyLink::new(alloc, datagrams(alloc));
     let _ = calls_of_link(&mut link);
-    Ok(link.given().map(|given| given.len()))
+    Some(link.given()?.len())
 }
 
-fn given_to_ether(alloc: Global) -> Result<Option<usize>, NoMemory> {
-    let waiting = frames(alloc)?;
-    let mut ether = SteadyEther::new(alloc, waiting);
+fn given_to_ether(alloc: Global) -> Option<usize> {
+    let mut ether = SteadyEther::new(alloc, frames(alloc));
     let _ = calls_of_ether(&mut ether);
-    Ok(ether.given().map(|given| given.len()))
+    Some(ether.given()?.len())
 }
 
-fn given_to_uplink(alloc: Global) -> Result<Option<usize>, NoMemory> {
-    let waiting = lower_frames(alloc)?;
-    let mut up = SteadyUplink::new(alloc, waiting);
+fn given_to_uplink(alloc: Global) -> Option<usize> {
+    let mut up = SteadyUplink::new(alloc, lower_frames(alloc));
     let _ = calls_of_uplink(&mut up);
-    Ok(up.given().map(|given| given.len()))
+    Some(up.given()?.len())
 }
 
 #[test]
-fn steady_ports_keep_what_they_are_given(rt: HostRuntime) -> Result<(), Fail> {
+fn steady_ports_keep_what_they_are_given(rt: HostRuntime) {
     let alloc = rt.alloc();
-    assert!(rt; given_to_link(alloc)? == Some(1));
-    assert!(rt; given_to_ether(alloc)? == Some(1));
-    assert!(rt; given_to_uplink(alloc)? == Some(1));
-    Ok(())
+    assert!(rt; given_to_link(alloc) == Some(1));
+    assert!(rt; given_to_ether(alloc) == Some(1));
+    assert!(rt; given_to_uplink(alloc) == Some(1));
+}
+
+/// Which calls of missing ports fail.
+fn calls_of_none() -> [[bool; 3]; 2] {
+    let mut ether: Option<MemoryEther> = None;
+    let mut up: Option<MemoryUplink> = None;
+    [calls_of_ether(&mut ether), calls_of_uplink(&mut up)]
 }
 
 #[test]
 fn a_missing_port_keeps_nothing(rt: HostRuntime) {
-    let mut ether: Option<MemoryEther> = None;
-    let mut up: Option<MemoryUplink> = None;
-    assert!(rt; calls_of_ether(&mut ether) == [false; 3]);
-    assert!(rt; calls_of_uplink(&mut up) == [false; 3]);
+    assert!(rt; calls_of_none() == [[false; 3]; 2]);
 }

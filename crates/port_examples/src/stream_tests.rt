@@ -1,14 +1,14 @@
+use crate::judging::string_of;
 use port_traits::{Ether, Lowered, Uplink};
 use std::alloc::Global;
 use std::io::{Read, Write};
 use std::net::Net;
 use std::os::unix::net::{UnixListener, UnixStream};
 use std::rt::Files;
-use std::test::Fail;
 use std::time::Duration;
 use std::{fs, io};
 use stream_ports::{UnixEther, UnixUplink};
-use wire_base::{Failed, NoMemory};
+use wire_base::Failed;
 
 /// A path where somebody listens, and nobody else did.
 fn listen<R: Files + Net>(system: &R, path: &str) -> io::Result<UnixListener> {
@@ -16,8 +16,22 @@ fn listen<R: Files + Net>(system: &R, path: &str) -> io::Result<UnixListener> {
     UnixListener::bind(system, path)
 }
 
-fn ether_at<R: Net + Drop>(alloc: Global, system: R, path: &str) -> Result<UnixEther<R>, NoMemory> {
-    UnixEther::new(alloc, system, String::from_str(alloc, path)?)
+fn ether_at<'a, R: Net>(alloc: Global, system: &'a R, path: &str) -> Option<UnixEther<&'a R>> {
+    UnixEther::new(alloc, system, string_of(alloc, path)).ok()
+}
+
+fn gives<E: Ether>(ether: &mut E, expected: Result<Option<usize>, Failed>) -> bool {
+    let mut buf = [0u8; 2048];
+    ether.recv(&mut buf) == expected
+}
+
+fn gives_bytes<E: Ether>(ether: &mut E, bytes: &[u8]) -> bool {
+    let mut buf = [0u8; 2048];
+    ether.recv(&mut buf) == Ok(Some(bytes.len())) && buf.get(..bytes.len()) == Some(bytes)
+}
+
+fn sends<E: Ether>(ether: &mut E, bytes: &[u8], expected: Result<(), Failed>) -> bool {
+    ether.send(bytes) == expected
 }
 
 /// How many frames of 1,000 bytes a peer reads, none of them in part, while the port is called; None where another byte
@@ -41,83 +55,170 @@ fn read_whole<E: Ether>(ether: &mut E, peer: &mut UnixStream) -> Option<u32> {
     Some(whole)
 }
 
-#[test]
-fn nobody_listens_is_a_fault(rt: HostRuntime) -> Result<(), Fail> {
-    let path = "nobody.sock";
-    let _ = fs::remove_file(&rt, path);
-    let mut ether = ether_at(rt.alloc(), &rt, path).ok().ok_or("memory")?;
-    let mut buf = [0u8; 2048];
-    assert!(rt; ether.recv(&mut buf) == Err(Failed));
-    assert!(rt; ether.send(b"x") == Err(Failed));
-    // the next call tries again
-    let _listener = listen(&rt, path)?;
-    assert!(rt; ether.recv(&mut buf) == Ok(None));
-    Ok(())
-}
+// What owns a port or a listener borrows the other, and has few ways out.
 
-#[test]
-fn frames_come_in_pieces(rt: HostRuntime) -> Result<(), Fail> {
-    let path = "pieces.sock";
-    let listener = listen(&rt, path)?;
-    let mut ether = ether_at(rt.alloc(), &rt, path).ok().ok_or("memory")?;
-    let mut buf = [0u8; 2048];
-    assert!(rt; ether.recv(&mut buf) == Ok(None));
-    let (mut peer, _) = listener.accept()?;
-    peer.write_all(&[0, 3, b'a'])?;
-    assert!(rt; ether.recv(&mut buf) == Ok(None));
-    peer.write_all(&[b'b', b'c', 0, 1, b'd', 0])?;
-    assert!(rt; ether.recv(&mut buf) == Ok(Some(3)));
-    assert!(rt; &buf[..3] == b"abc".as_slice());
-    assert!(rt; ether.recv(&mut buf) == Ok(Some(1)));
-    assert!(rt; ether.recv(&mut buf) == Ok(None));
-    // the end of the stream is a fault
-    drop(peer);
-    assert!(rt; ether.recv(&mut buf) == Err(Failed));
-    Ok(())
-}
-
-#[test]
-fn a_peer_that_does_not_read_gets_whole_frames(rt: HostRuntime) -> Result<(), Fail> {
-    let path = "full.sock";
-    let listener = listen(&rt, path)?;
-    let mut ether = ether_at(rt.alloc(), &rt, path).ok().ok_or("memory")?;
-    for _ in 0..2000 {
-        assert!(rt; ether.send(&[9u8; 1000]) == Ok(()));
+/// Somebody listens, and the port's next call tries again.
+fn is_found<R: Files + Net, E: Ether>(system: &R, path: &str, ether: &mut E) -> bool {
+    match listen(system, path) {
+        Ok(_listener) => gives(ether, Ok(None)),
+        Err(_) => false,
     }
-    let (mut peer, _) = listener.accept()?;
-    peer.set_read_timeout(Some(Duration::from_millis(50)))?;
-    let whole = read_whole(&mut ether, &mut peer).ok_or("a frame in part")?;
-    assert!(rt; whole > 10 && whole < 2000);
-    // and then the next one
-    let mut head = [0u8; 7];
-    assert!(rt; ether.send(b"after") == Ok(()));
-    peer.read_exact(&mut head)?;
-    assert!(rt; &head == b"\x00\x05after");
-    Ok(())
+}
+
+fn nobody_listens<R: Files + Net>(alloc: Global, system: &R, path: &str) -> bool {
+    let _ = fs::remove_file(system, path);
+    match ether_at(alloc, system, path) {
+        Some(mut ether) => {
+            gives(&mut ether, Err(Failed))
+                && sends(&mut ether, b"x", Err(Failed))
+                && is_found(system, path, &mut ether)
+        }
+        None => false,
+    }
 }
 
 #[test]
-fn network_frames_have_a_session(rt: HostRuntime) -> Result<(), Fail> {
-    let alloc = rt.alloc();
-    let path = "uplink.sock";
-    let listener = listen(&rt, path)?;
-    let path = String::from_str(alloc, path)?;
-    let mut up = UnixUplink::new(alloc, &rt, path).ok().ok_or("memory")?;
-    let mut buf = [0u8; 2048];
-    assert!(rt; up.send(258, &[0, 33, 170]) == Ok(()));
+fn nobody_listens_is_a_fault(rt: HostRuntime) {
+    assert!(rt; nobody_listens(rt.alloc(), &rt, "nobody.sock"));
+}
+
+/// Two frames come in two pieces, and the beginning of a third.
+fn joins_pieces<E: Ether>(ether: &mut E, peer: &mut UnixStream) -> io::Result<bool> {
+    peer.write_all(&[0, 3, b'a'])?;
+    let is_in_part = gives(ether, Ok(None));
+    peer.write_all(&[b'b', b'c', 0, 1, b'd', 0])?;
+    let is_whole = gives_bytes(ether, b"abc") && gives(ether, Ok(Some(1)));
+    Ok(is_in_part && is_whole && gives(ether, Ok(None)))
+}
+
+/// Frames come in pieces of a peer, whose end is a fault.
+fn joins_until_the_end<E: Ether>(ether: &mut E, listener: &UnixListener) -> io::Result<bool> {
     let (mut peer, _) = listener.accept()?;
-    let mut message = [0u8; 7];
-    peer.read_exact(&mut message)?;
-    assert!(rt; message == [0, 5, 1, 2, 0, 33, 170]);
-    // one that is too short for a session is passed over
-    peer.write_all(&[0, 1, 9])?;
-    peer.write_all(&message)?;
-    assert!(rt; up.recv(&mut buf) == Ok(None));
+    let are_joined = matches!(joins_pieces(ether, &mut peer), Ok(true));
+    drop(peer);
+    Ok(are_joined && gives(ether, Err(Failed)))
+}
+
+fn joins_from<R: Net>(alloc: Global, system: &R, path: &str, listener: &UnixListener) -> bool {
+    match ether_at(alloc, system, path) {
+        Some(mut ether) => {
+            gives(&mut ether, Ok(None))
+                && matches!(joins_until_the_end(&mut ether, listener), Ok(true))
+        }
+        None => false,
+    }
+}
+
+fn pieces_are_joined<R: Files + Net>(alloc: Global, system: &R, path: &str) -> bool {
+    match listen(system, path) {
+        Ok(listener) => joins_from(alloc, system, path, &listener),
+        Err(_) => false,
+    }
+}
+
+#[test]
+fn frames_come_in_pieces(rt: HostRuntime) {
+    assert!(rt; pieces_are_joined(rt.alloc(), &rt, "pieces.sock"));
+}
+
+/// 2,000 frames of 1,000 bytes are taken.
+fn sends_all<E: Ether>(ether: &mut E) -> bool {
+    for _ in 0..2000 {
+        if ether.send(&[9u8; 1000]).is_err() {
+            return false;
+        }
+    }
+    true
+}
+
+/// A peer reads some of the frames, but not all, and then the next one.
+fn is_read_whole<E: Ether>(ether: &mut E, peer: &mut UnixStream) -> io::Result<bool> {
+    peer.set_read_timeout(Some(Duration::from_millis(50)))?;
+    let whole = read_whole(ether, peer);
+    let mut head = [0u8; 7];
+    let is_sent = sends(ether, b"after", Ok(()));
+    peer.read_exact(&mut head)?;
+    match whole {
+        Some(whole) => Ok(whole > 10 && whole < 2000 && is_sent && &head == b"\x00\x05after"),
+        None => Ok(false),
+    }
+}
+
+fn is_read_late<E: Ether>(ether: &mut E, listener: &UnixListener) -> io::Result<bool> {
+    let (mut peer, _) = listener.accept()?;
+    is_read_whole(ether, &mut peer)
+}
+
+fn fills_and_is_read<R: Net>(
+    alloc: Global,
+    system: &R,
+    path: &str,
+    listener: &UnixListener,
+) -> bool {
+    match ether_at(alloc, system, path) {
+        Some(mut ether) => {
+            sends_all(&mut ether) && matches!(is_read_late(&mut ether, listener), Ok(true))
+        }
+        None => false,
+    }
+}
+
+fn frames_are_whole<R: Files + Net>(alloc: Global, system: &R, path: &str) -> bool {
+    match listen(system, path) {
+        Ok(listener) => fills_and_is_read(alloc, system, path, &listener),
+        Err(_) => false,
+    }
+}
+
+#[test]
+fn a_peer_that_does_not_read_gets_whole_frames(rt: HostRuntime) {
+    assert!(rt; frames_are_whole(rt.alloc(), &rt, "full.sock"));
+}
+
+/// A frame of the session 258 as it is on the stream.
+const MESSAGE: [u8; 7] = [0, 5, 1, 2, 0, 33, 170];
+
+/// The uplink gives nothing, and then the frame.
+fn gives_the_frame<U: Uplink>(up: &mut U) -> bool {
+    let mut buf = [0u8; 2048];
+    let is_empty = up.recv(&mut buf) == Ok(None);
     let came = Lowered {
         session: 258,
         len: 3,
     };
-    assert!(rt; up.recv(&mut buf) == Ok(Some(came)));
-    assert!(rt; &buf[..3] == [0u8, 33, 170].as_slice());
-    Ok(())
+    is_empty && up.recv(&mut buf) == Ok(Some(came)) && &buf[..3] == [0u8, 33, 170].as_slice()
+}
+
+/// A peer reads the frame, and sends it back behind one that is too short for a session and passed over.
+fn is_sent_back<U: Uplink>(up: &mut U, peer: &mut UnixStream) -> io::Result<bool> {
+    let mut message = [0u8; 7];
+    peer.read_exact(&mut message)?;
+    peer.write_all(&[0, 1, 9])?;
+    peer.write_all(&message)?;
+    Ok(message == MESSAGE && gives_the_frame(up))
+}
+
+fn crosses<U: Uplink>(up: &mut U, listener: &UnixListener) -> io::Result<bool> {
+    let is_sent = up.send(258, &[0, 33, 170]) == Ok(());
+    let (mut peer, _) = listener.accept()?;
+    Ok(is_sent && is_sent_back(up, &mut peer)?)
+}
+
+fn crosses_from<R: Net>(alloc: Global, system: &R, path: &str, listener: &UnixListener) -> bool {
+    match UnixUplink::new(alloc, system, string_of(alloc, path)) {
+        Ok(mut up) => matches!(crosses(&mut up, listener), Ok(true)),
+        Err(_) => false,
+    }
+}
+
+fn network_frames_cross<R: Files + Net>(alloc: Global, system: &R, path: &str) -> bool {
+    match listen(system, path) {
+        Ok(listener) => crosses_from(alloc, system, path, &listener),
+        Err(_) => false,
+    }
+}
+
+#[test]
+fn network_frames_have_a_session(rt: HostRuntime) {
+    assert!(rt; network_frames_cross(rt.alloc(), &rt, "uplink.sock"));
 }
