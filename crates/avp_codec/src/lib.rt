@@ -3,10 +3,12 @@
 
 mod avp;
 mod error;
+mod lent;
 mod reading;
 mod writing;
 
 pub use avp::{Avp, Avps};
 pub use error::AvpError;
-pub use reading::{read_avps, reads_what_was_written};
+pub use lent::{AvpRef, LentAvps, Place, Places};
+pub use reading::{read_avps, read_places, reads_what_was_written};
 pub use writing::{spell_avps, write_avp};

@@ -1,17 +1,19 @@
 //! Reading pairs from the front.
 
-ghost use Rattle.std.specs.Prelude.{◌≡◌, ◌≤◌, ◌==◌, ◌/◌, ◌%◌, nat_lt, List, length, Ok, Err, IfOk, IfErr};
+ghost use Rattle.std.specs.Prelude.{◌≡◌, ◌≤◌, ◌==◌, ◌/◌, ◌%◌, nat_lt, ℕ, ◌+◌, ◌<◌, ◌^◌, List, length, drop, Ok, Err, IfOk, IfErr};
 ghost use Rattle.avp_codec.specs.declared.avp.Avp.{Avp};
 ghost use Rattle.avp_codec.specs.declared.error.AvpError.{AvpError};
 ghost use Rattle.avp_codec.specs.Spelling.{AreAvps, spelling};
 ghost use Rattle.avp_codec.specs.Faults.{IsFault, IsFirstFault};
 ghost use Rattle.wire_base.specs.Answers.{Gives};
 ghost use Rattle.avp_codec.specs.Reading.{Told, avp_at, avps_of};
+ghost use Rattle.avp_codec.specs.Places.{pair_in, pairs_in};
 
-use crate::avp::{Avp, Avps};
+use crate::avp::Avps;
 use crate::error::AvpError;
+use crate::lent::{LentAvps, Place, Places};
 use std::alloc::Global;
-use wire_base::{Bytes, take_u16};
+use wire_base::take_u16;
 
 /// Whether a length is too small to count the six bytes of a pair's head.
 fn is_under_six(len: usize) -> bool
@@ -27,10 +29,11 @@ fn is_hidden(word: u16) -> bool
     word / 0x4000 % 2 == 1
 }
 
-/// The pair at the front, and how many bytes it takes. Its place is told in a fault.
+/// The pair at the front as a place in the bytes, and how many bytes it takes. Where the bytes stand is told in a fault.
 #[tactic(auto, unfolding(crate::specs::Reading::avp_at))]
-fn read_avp(alloc: Global, rest: &[u8], at: usize) -> Result<(Avp, usize), AvpError>
-    ensures exact { Gives Told (λ x. (x.0, x.1)) result (avp_at at rest.now) }
+fn read_place(rest: &[u8], at: usize) -> Result<(Place, usize), AvpError>
+    ensures exact { Gives Told (λ x. (pair_in rest.now x.0, x.1)) result (avp_at at rest.now) }
+    ensures start { IfOk result (λ x. x.0.start ≡ 6) }
     ensures len { IfOk result (λ x. (6 ≤ x.1) × (x.1 ≤ length rest.now)) }
 {
     let Ok(word) = take_u16(rest, 0) else {
@@ -49,29 +52,51 @@ fn read_avp(alloc: Global, rest: &[u8], at: usize) -> Result<(Avp, usize), AvpEr
     if rest.len() < len {
         return Err(AvpError::PastEnd { at });
     }
-    let value = Bytes::from_slice(alloc, &rest[6..len])?;
-    let avp = Avp {
+    let place = Place {
         mandatory: word / 0x8000 == 1,
         hidden: is_hidden(word),
         reserved: (word / 0x400 % 16) as u8,
         vendor,
         attribute,
-        value,
+        start: 6,
+        len: len - 6,
     };
-    Ok((avp, len))
+    Ok((place, len))
+}
+
+impl Place {
+    /// The place in bytes of which the first so many were left out.
+    fn behind(self, at: usize) -> Place
+        requires { at + self.start < 2 ^ 64 }
+        ensures { (bytes : List ℕ) → pair_in bytes result ≡ pair_in (drop at bytes) self }
+    {
+        Place {
+            start: at + self.start,
+            ..self
+        }
+    }
+}
+
+/// The places of the pairs that the bytes spell, all of the bytes. No value is copied.
+pub fn read_places(alloc: Global, bytes: &[u8]) -> Result<Places, AvpError>
+    ensures { Gives Told (λ v. pairs_in bytes.now v) result (avps_of bytes.now) }
+{
+    let mut places = Places::new(alloc);
+    let mut at = 0;
+    while at < bytes.len() {
+        let (place, len) = read_place(&bytes[at..], at)?;
+        places.push(place.behind(at))?;
+        at += len;
+    }
+    Ok(places)
 }
 
 /// The whole reading, with the answer as a function of the bytes.
 fn read_all(alloc: Global, bytes: &[u8]) -> Result<Avps, AvpError>
     ensures { Gives Told (λ v. v) result (avps_of bytes.now) }
 {
-    let mut avps = Avps::new(alloc);
-    let mut at = 0;
-    while at < bytes.len() {
-        let (avp, len) = read_avp(alloc, &bytes[at..], at)?;
-        avps.push(avp)?;
-        at += len;
-    }
+    let places = read_places(alloc, bytes)?;
+    let avps = LentAvps::new(bytes, places.as_slice()).copy(alloc)?;
     Ok(avps)
 }
 

@@ -5,18 +5,22 @@ ghost use Rattle.control_message.specs.Pairs.{IsWritten, IsWrittenOpening, AreWr
 
 use crate::row::{Fault, Row};
 use crate::spelling::told;
-use avp_codec::read_avps;
+use avp_codec::{LentAvps, read_avps, read_places};
 use control_message::*;
 use wire_base::{Bytes, NoMemory, Pair, Pairs};
 
 /// The answer of a call that reads pairs.
 pub fn pairs_row(row: &Row<'_>) -> Result<String, Fault> {
-    let avps = match read_avps(row.alloc, row.bytes(1, 2000)) {
-        Ok(avps) => avps,
+    let bytes = row.bytes(1, 2000);
+    if row.word(0) == "read_avps" {
+        return told(row.alloc, &read_avps(row.alloc, bytes));
+    }
+    let places = match read_places(row.alloc, bytes) {
+        Ok(places) => places,
         fault => return told(row.alloc, &fault),
     };
+    let avps = LentAvps::new(bytes, places.as_slice());
     match row.word(0) {
-        "read_avps" => told(row.alloc, &Ok::<_, Fault>(avps)),
         "read_message" => told(
             row.alloc,
             &read_message(row.alloc, &avps, row.some_bytes(2, 99), Kinds::Queries),
@@ -175,13 +179,14 @@ fn told_message(
     alone: &Bytes,
     secret: Option<&[u8]>,
 ) -> Result<String, Fault> {
-    match read_avps(row.alloc, alone.as_slice()) {
-        Ok(avps) => told(
-            row.alloc,
-            &(out, read_message(row.alloc, &avps, secret, Kinds::Queries)),
-        ),
-        Err(_) => Err(Fault::NotARow),
-    }
+    let Ok(places) = read_places(row.alloc, alone.as_slice()) else {
+        return Err(Fault::NotARow);
+    };
+    let avps = LentAvps::new(alone.as_slice(), places.as_slice());
+    told(
+        row.alloc,
+        &(out, read_message(row.alloc, &avps, secret, Kinds::Queries)),
+    )
 }
 
 /// Writes a message behind some bytes, and alone, and reads it back.

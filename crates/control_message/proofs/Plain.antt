@@ -1,5 +1,5 @@
 -- Pairs of which none is hidden, and how long pairs are that were uncovered.
-use Rattle.std.proofs.Common.{◌≡◌, ℕ, ◌≤◌, Bool, false, List, [], ◌∷◌, ◌++◌, length, take, drop, Option, Some, None, Result, Ok, Err, ◌⊎◌, refl, sym, ap, subst, ◌∙◌, inl, inr, length-take, length-drop, arith}
+use Rattle.std.proofs.Common.{◌≡◌, ℕ, ◌≤◌, Bool, true, false, List, [], ◌∷◌, ◌++◌, length, take, drop, Option, Some, None, is_some, Result, Ok, Err, ◌⊎◌, refl, sym, ap, subst, ◌∙◌, inl, inr, length-take, length-drop, arith}
 use Rattle.std.specs.Prelude.{if◌then◌else◌}
 use Rattle.std.specs.List.{find}
 use Rattle.std.proofs.lemmas.Bool.{cases_Bool, cases_lt, lt-ltb, le-ltb}
@@ -50,6 +50,10 @@ none_hidden (a ∷ avps) h =
           let e : find (λ (x : Avp). x.hidden) (a ∷ avps) ≡ find (λ (x : Avp). x.hidden) avps = ap (λ (b : Bool). if b then Some a else find (λ (x : Avp). x.hidden) avps) f in
           (f, none_hidden avps (sym e ∙ h))
     ]
+
+pub none_found : (o : Option Avp) → is_some o ≡ false → o ≡ None
+none_found None h = refl
+none_found (Some a) h = let h' : true ≡ false = h in absurd cc
 
 pub nothing_uncovered : (secret : List ℕ) (avps : List Avp) → find (λ (a : Avp). a.hidden) avps ≡ None → uncovered_all secret None avps ≡ avps
 nothing_uncovered secret avps h = all_stay secret None avps (none_hidden avps h)

@@ -1,7 +1,5 @@
 -- Which Random Vector counts behind some pairs, and what a pair is behind it.
-use Rattle.std.proofs.Common.{◌≡◌, ℕ, ◌||◌, Bool, true, false, ◌+◌, List, [], ◌∷◌, ◌++◌, take, drop, suc, ◌<◌, length, get_or, Option, Some, None, Decides, refl, sym, ap, subst, ◌∙◌, inl, inr, append_assoc, arith}
-use Rattle.std.proofs.lemmas.List.{take_more}
-use Rattle.std.proofs.Math.Seq.{drop-cons}
+use Rattle.std.proofs.Common.{◌≡◌, ℕ, ◌||◌, Bool, true, false, List, [], ◌∷◌, ◌++◌, Option, Some, None, Decides, refl, sym, ap, subst, ◌∙◌, inl, inr, append_assoc}
 use Rattle.std.specs.Prelude.{not, if◌then◌else◌}
 use Rattle.std.specs.List.{AllByRecursion}
 use Rattle.std.proofs.lemmas.Bool.{cases_Bool, false_from_ne_true, both_ways}
@@ -178,37 +176,29 @@ stays_behind secret before (a ∷ avps) h = (inr (refl, inl h.0), stays_behind s
 
 -- ---- one after the other
 
--- a pair more is taken, and one fewer is left
-pub taken_more : (avps : List Avp) (i : ℕ) (a : Avp) → a ≡ get_or avps i a → i < length avps → take (i + 1) avps ≡ take i avps ++ a ∷ []
-taken_more avps i a is lt = take_more avps i a lt ∙ ap (λ (x : Avp). take i avps ++ x ∷ []) (sym is)
+-- where the loop stands, with the pairs that it passed and those that are left
+pub record Stands (secret : List ℕ) (avps plain : List Avp) (vector : Option (List ℕ)) (left : List Avp) : Type 0 where
+  pub before : List Avp
+  pub last : IsVectorBehind before vector
+  pub exact : plain ++ uncovered_all secret vector left ≡ uncovered_all secret None avps
+  pub found : (rest : List Avp) → UncoversBehind secret before left rest → UncoversBehind secret [] avps (plain ++ rest)
 
-pub left_less : (avps : List Avp) (i : ℕ) (a : Avp) → a ≡ get_or avps i a → i < length avps → drop i avps ≡ a ∷ drop (i + 1) avps
-left_less avps i a is lt =
-    let next : suc i ≡ i + 1 = omega arith in
-    drop-cons avps i a lt ∙ ap (λ (x : Avp). x ∷ drop (suc i) avps) (sym is) ∙ ap (λ (n : ℕ). a ∷ drop n avps) next
-
--- where the loop stands
-pub record Stands (secret : List ℕ) (avps plain : List Avp) (vector : Option (List ℕ)) (i : ℕ) : Type 0 where
-  pub last : IsVectorBehind (take i avps) vector
-  pub exact : plain ++ uncovered_all secret vector (drop i avps) ≡ uncovered_all secret None avps
-  pub found : (rest : List Avp) → UncoversBehind secret (take i avps) (drop i avps) rest → UncoversBehind secret [] avps (plain ++ rest)
-
-pub goes_on : (secret : List ℕ) (avps plain more : List Avp) (vector next : Option (List ℕ)) (i : ℕ) (a p : Avp) → Stands secret avps plain vector i
-    → take (i + 1) avps ≡ take i avps ++ a ∷ [] → drop i avps ≡ a ∷ drop (i + 1) avps → p ≡ uncovered_pair secret vector a → IsUncovered secret (take i avps) a p
-    → next ≡ vector_after vector a → more ≡ plain ++ p ∷ [] → Stands secret avps more next (i + 1)
-goes_on secret avps plain more vector next i a p h taken left same is follows grown =
-    let behind : List Avp = uncovered_all secret (vector_after vector a) (drop (i + 1) avps) in
-    let joined : (plain ++ p ∷ []) ++ behind ≡ uncovered_all secret None avps =
-    append_assoc plain (p ∷ []) behind
-    ∙ ap (λ (x : Avp). plain ++ x ∷ behind) same
-    ∙ ap (λ (d : List Avp). plain ++ uncovered_all secret vector d) (sym left)
+pub goes_on : (secret : List ℕ) (avps plain more : List Avp) (vector next : Option (List ℕ)) (left behind : List Avp) (a p : Avp) → (h : Stands secret avps plain vector left)
+    → left ≡ a ∷ behind → p ≡ uncovered_pair secret vector a → IsUncovered secret h.before a p
+    → next ≡ vector_after vector a → more ≡ plain ++ p ∷ [] → Stands secret avps more next behind
+goes_on secret avps plain more vector next left behind a p h parts same is follows grown =
+    let others : List Avp = uncovered_all secret (vector_after vector a) behind in
+    let joined : (plain ++ p ∷ []) ++ others ≡ uncovered_all secret None avps =
+    append_assoc plain (p ∷ []) others
+    ∙ ap (λ (x : Avp). plain ++ x ∷ others) same
+    ∙ ap (λ (d : List Avp). plain ++ uncovered_all secret vector d) (sym parts)
     ∙ h.exact in
     record {
-      last = rw (taken, follows) (behind_more (take i avps) vector a h.last);
+      before = h.before ++ a ∷ [];
+      last = rw follows (behind_more h.before vector a h.last);
       exact = rw (grown, follows) joined;
       found = λ rest u.
-          let others : UncoversBehind secret (take i avps ++ a ∷ []) (drop (i + 1) avps) rest = subst (λ (t : List Avp). UncoversBehind secret t (drop (i + 1) avps) rest) taken u in
-          let whole : UncoversBehind secret (take i avps) (drop i avps) (p ∷ rest) = subst (λ (d : List Avp). UncoversBehind secret (take i avps) d (p ∷ rest)) (sym left) (is, others) in
+          let whole : UncoversBehind secret h.before left (p ∷ rest) = subst (λ (d : List Avp). UncoversBehind secret h.before d (p ∷ rest)) (sym parts) (is, u) in
           let all : (plain ++ p ∷ []) ++ rest ≡ plain ++ p ∷ rest = append_assoc plain (p ∷ []) rest in
           rw (grown, all) (h.found (p ∷ rest) whole);
     }

@@ -1,5 +1,5 @@
 -- What the walk keeps of the pairs that it passed.
-use Rattle.std.proofs.Common.{◌≡◌, ◌≢◌, ℕ, ◌<◌, ◌||◌, Bool, true, false, List, [], ◌∷◌, ◌++◌, length, get_or, set, replicate, Some, is_some, refl, sym, ap, subst, ◌∙◌, inl, inr, arith}
+use Rattle.std.proofs.Common.{◌≡◌, ◌≢◌, ℕ, ◌<◌, ◌||◌, Bool, true, false, List, [], ◌∷◌, ◌++◌, length, get_or, set, replicate, Some, is_some, Ok, Err, refl, sym, ap, subst, ◌∙◌, inl, inr, arith}
 use Rattle.std.specs.Prelude.{slice_get}
 use Rattle.std.specs.List.{AllByRecursion, find}
 use Rattle.std.proofs.lemmas.Bool.{cases_Bool, cases_eq, false_from_ne_true}
@@ -12,7 +12,9 @@ use Rattle.control_message.specs.declared.kind.Kind.{Kind}
 use Rattle.control_message.specs.declared.kind.Kind.TheVariants as kind
 use Rattle.control_message.specs.declared.kind.Shape.{Shape}
 use Rattle.control_message.specs.Table.{shape_of, uses_of}
-use Rattle.control_message.specs.Reading.{is_at, first, is_draw, first_draw, is_vector, has_vector}
+use Rattle.wire_base.specs.Answers.{◌>>=◌}
+use Rattle.control_message.specs.declared.message.MessageError.{MessageError}
+use Rattle.control_message.specs.Reading.{is_at, first, is_draw, first_draw, is_vector, has_vector, checked, checked_all}
 use Rattle.control_message.specs.Walk.{HasSeen}
 use Rattle.control_message.proofs.Firsts.{decides_at}
 use Rattle.control_message.proofs.Along.{row_holds}
@@ -135,3 +137,27 @@ all_below kind.Fsr = (omega arith, tt)
 
 pub used_below : (k : Kind) (n : ℕ) (s : Shape) → shape_of k n ≡ Some s → n < 80
 used_below k n s h = row_holds (λ (u : ℕ × Shape). u.0 < 80) n s (uses_of k) (all_below k) h
+
+-- ---- where the walk stands
+
+pub record Walked (k : Kind) (s : Seen) (avps rest : List Avp) : Type 0 where
+  pub before : List Avp
+  pub seen : HasSeen s before
+  pub left : checked_all k before rest ≡ checked_all k [] avps
+
+pub walk_begins : (k : Kind) (s : Seen) (avps : List Avp) → HasSeen s [] → Walked k s avps avps
+walk_begins k s avps h = record { before = []; seen = h; left = refl }
+
+-- a pair without a fault
+pub walks_on : (k : Kind) (s t : Seen) (avps rest behind : List Avp) (a : Avp) → rest ≡ a ∷ behind → (w : Walked k s avps rest) → checked k w.before a ≡ Ok tt → HasSeen t (w.before ++ a ∷ []) → Walked k t avps behind
+walks_on k s t avps rest behind a e w good seen =
+    record {
+      before = w.before ++ a ∷ [];
+      seen = seen;
+      left = sym (ap (λ r. r >>= λ _. checked_all k (w.before ++ a ∷ []) behind) good) ∙ (ap (λ (r : List Avp). checked_all k w.before r) (sym e) ∙ w.left);
+    }
+
+-- a pair with one
+pub walk_ends : (k : Kind) (s : Seen) (avps rest behind : List Avp) (a : Avp) (fault : MessageError) → rest ≡ a ∷ behind → (w : Walked k s avps rest) → checked k w.before a ≡ Err fault → checked_all k [] avps ≡ Err fault
+walk_ends k s avps rest behind a fault e w bad =
+    sym w.left ∙ ap (λ (r : List Avp). checked_all k w.before r) e ∙ ap (λ r. r >>= λ _. checked_all k (w.before ++ a ∷ []) behind) bad

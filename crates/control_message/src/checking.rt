@@ -10,7 +10,7 @@ use crate::attribute::SESSION_STATE;
 use crate::finding::{is_at, is_draw, is_recognised, is_vector};
 use crate::kind::{Kind, Shape};
 use crate::message::MessageError;
-use avp_codec::Avp;
+use avp_codec::{AvpRef, LentAvps};
 
 /// The attributes that messages use are below this.
 const ATTRIBUTES: usize = 80;
@@ -67,7 +67,7 @@ impl Seen {
     }
 
     /// Adds a pair.
-    fn add(&mut self, avp: &Avp)
+    fn add(&mut self, avp: &AvpRef<'_>)
         ensures { (before : List Avp) → HasSeen self.old before → HasSeen self.new (before ++ avp.now ∷ []) }
     {
         if is_at(avp, avp.attribute) {
@@ -79,7 +79,7 @@ impl Seen {
 }
 
 /// A value that the message uses, where a Random Vector stands before it or not.
-fn check_value(shape: Shape, vector: bool, avp: &Avp) -> Result<(), MessageError>
+fn check_value(shape: Shape, vector: bool, avp: &AvpRef<'_>) -> Result<(), MessageError>
     ensures { result ≡ checked_value shape vector avp.now }
 {
     let attribute = avp.attribute;
@@ -90,7 +90,7 @@ fn check_value(shape: Shape, vector: bool, avp: &Avp) -> Result<(), MessageError
             MessageError::HiddenWithoutVector { attribute }
         });
     }
-    if shape.fits(avp.value.as_slice()) {
+    if shape.fits(avp.value) {
         Ok(())
     } else {
         Err(MessageError::BadValue { attribute })
@@ -98,7 +98,7 @@ fn check_value(shape: Shape, vector: bool, avp: &Avp) -> Result<(), MessageError
 }
 
 /// Whether a pair had to be understood, and isn't recognised.
-fn is_misunderstood(avp: &Avp) -> bool
+fn is_misunderstood(avp: &AvpRef<'_>) -> bool
     ensures { result ≡ not (is_recognised avp.now) && avp.now.mandatory }
 {
     !is_recognised(avp) && avp.mandatory
@@ -106,7 +106,7 @@ fn is_misunderstood(avp: &Avp) -> bool
 
 /// The fault of a pair of an attribute of the IETF behind others. Only the first pair of an attribute counts, but each
 /// Failover Session State does.
-fn check_use(kind: Kind, seen: &Seen, avp: &Avp) -> Result<(), MessageError>
+fn check_use(kind: Kind, seen: &Seen, avp: &AvpRef<'_>) -> Result<(), MessageError>
     ensures { (before : List Avp) → HasSeen seen.now before → result ≡ checked_use (shape_of kind avp.now.attribute) before avp.now }
 {
     match kind.shape(avp.attribute) {
@@ -117,7 +117,7 @@ fn check_use(kind: Kind, seen: &Seen, avp: &Avp) -> Result<(), MessageError>
 }
 
 /// The fault of a Draw Number behind others. Only the first one counts.
-fn check_draw(kind: Kind, seen: &Seen, avp: &Avp) -> Result<(), MessageError>
+fn check_draw(kind: Kind, seen: &Seen, avp: &AvpRef<'_>) -> Result<(), MessageError>
     ensures { (before : List Avp) → HasSeen seen.now before → result ≡ checked_draw (uses_draw kind) before avp.now }
 {
     if !kind.uses_draw() || seen.draw {
@@ -128,7 +128,7 @@ fn check_draw(kind: Kind, seen: &Seen, avp: &Avp) -> Result<(), MessageError>
 
 /// The fault of a pair behind others, if it has one.
 #[tactic(auto, unfolding(crate::specs::Reading::checked))]
-fn check_avp(kind: Kind, seen: &Seen, avp: &Avp) -> Result<(), MessageError>
+fn check_avp(kind: Kind, seen: &Seen, avp: &AvpRef<'_>) -> Result<(), MessageError>
     ensures { (before : List Avp) → HasSeen seen.now before → result ≡ checked kind before avp.now }
 {
     if is_misunderstood(avp) {
@@ -148,13 +148,15 @@ fn check_avp(kind: Kind, seen: &Seen, avp: &Avp) -> Result<(), MessageError>
 }
 
 /// The first fault along the list. Each pair is looked at once.
-pub fn check_all(kind: Kind, avps: &[Avp]) -> Result<(), MessageError>
+pub fn check_all(kind: Kind, avps: &LentAvps<'_>) -> Result<(), MessageError>
     ensures { result ≡ checked_all kind [] avps.now }
 {
     let mut seen = Seen::new();
-    for avp in avps {
-        check_avp(kind, &seen, avp)?;
-        seen.add(avp);
+    let mut rest = avps.lend();
+    while let Some((avp, behind)) = rest.split_first() {
+        check_avp(kind, &seen, &avp)?;
+        seen.add(&avp);
+        rest = behind;
     }
     Ok(())
 }

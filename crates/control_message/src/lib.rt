@@ -15,7 +15,7 @@ pub use kind::{Kind, Kinds};
 pub use message::{Failover, Message, MessageError, Opening, Read, Recovery, Suggested};
 pub use reading::{kind_of_pairs, read_message, reads_what_was_written};
 pub use uncovering::{
-    hidden_requests_are_read, leaves_plain_pairs, plain_messages_stay, reads_what_was_hidden,
-    spells_what_was_uncovered, uncover,
+    has_hidden, hidden_requests_are_read, leaves_plain_pairs, plain_messages_stay,
+    reads_what_was_hidden, spells_what_was_uncovered, uncover,
 };
 pub use writing::{has_room, has_room_with, hides_nothing_without_a_vector, write_message};

@@ -28,24 +28,24 @@ use crate::checking::check_all;
 use crate::finding::{find_avp, find_draw, has_avp, is_at, u16_in};
 use crate::kind::{Kind, Kinds};
 use crate::message::{Failover, Message, MessageError, Opening, Read, Recovery, Suggested};
-use crate::uncovering::{copy_uncovered, find_hidden};
-use avp_codec::{Avp, Avps};
+use crate::uncovering::{copy_uncovered, has_hidden};
+use avp_codec::{AvpRef, LentAvps};
 use std::alloc::Global;
 use wire_base::{Bytes, NoMemory, Pair, Pairs, take_u16, take_u32};
 
 /// The value of an attribute that the message needs.
-fn value_of(avps: &[Avp], attribute: u16) -> Result<&[u8], MessageError>
+fn value_of<'a>(avps: &LentAvps<'a>, attribute: u16) -> Result<&'a [u8], MessageError>
     ensures { MatchResult result (λ v. value_at attribute avps.now ≡ Ok v.now) (λ e. value_at attribute avps.now ≡ Err e) }
 {
     match find_avp(avps, attribute) {
-        Some(avp) => Ok(avp.value.as_slice()),
+        Some(avp) => Ok(avp.value),
         None => Err(MessageError::Missing { attribute }),
     }
 }
 
 /// The number of an attribute, in two bytes.
 #[tactic(auto, unfolding(crate::specs::Reading::u16_at))]
-fn u16_of(avps: &[Avp], attribute: u16) -> Result<u16, MessageError>
+fn u16_of(avps: &LentAvps<'_>, attribute: u16) -> Result<u16, MessageError>
     ensures { result ≡ u16_at attribute avps.now }
 {
     let value = value_of(avps, attribute)?;
@@ -54,7 +54,7 @@ fn u16_of(avps: &[Avp], attribute: u16) -> Result<u16, MessageError>
 
 /// The number of an attribute, in four bytes.
 #[tactic(auto, unfolding(crate::specs::Reading::u32_at))]
-fn u32_of(avps: &[Avp], attribute: u16) -> Result<u32, MessageError>
+fn u32_of(avps: &LentAvps<'_>, attribute: u16) -> Result<u32, MessageError>
     ensures { result ≡ u32_at attribute avps.now }
 {
     let value = value_of(avps, attribute)?;
@@ -65,13 +65,13 @@ fn u32_of(avps: &[Avp], attribute: u16) -> Result<u32, MessageError>
 }
 
 /// The text of an attribute, where it is told.
-fn text_of(alloc: Global, avps: &[Avp], attribute: u16) -> Result<Option<Bytes>, NoMemory>
+fn text_of(alloc: Global, avps: &LentAvps<'_>, attribute: u16) -> Result<Option<Bytes>, NoMemory>
     ensures { IfOk result (λ o. o ≡ text_at attribute avps.now) }
 {
     match find_avp(avps, attribute) {
         None => Ok(None),
         Some(avp) => {
-            let value = Bytes::from_slice(alloc, avp.value.as_slice())?;
+            let value = Bytes::from_slice(alloc, avp.value)?;
             Ok(Some(value))
         }
     }
@@ -79,12 +79,12 @@ fn text_of(alloc: Global, avps: &[Avp], attribute: u16) -> Result<Option<Bytes>,
 
 /// Receive Window Size, which is 4 where it isn't told (RFC 2661 section 4.4.3).
 #[tactic(auto, unfolding(crate::specs::Reading::window_at))]
-fn window_of(avps: &[Avp]) -> Result<u16, MessageError>
+fn window_of(avps: &LentAvps<'_>) -> Result<u16, MessageError>
     ensures { result ≡ window_at avps.now }
 {
     match find_avp(avps, WINDOW) {
         None => Ok(4),
-        Some(avp) => u16_in(avp.value.as_slice(), WINDOW),
+        Some(avp) => u16_in(avp.value, WINDOW),
     }
 }
 
@@ -103,13 +103,13 @@ fn failover_in(value: &[u8]) -> Option<Failover>
 
 /// Failover Capability.
 #[tactic(auto, unfolding(crate::specs::Reading::failover_at))]
-fn failover_of(avps: &[Avp]) -> Result<Option<Failover>, MessageError>
+fn failover_of(avps: &LentAvps<'_>) -> Result<Option<Failover>, MessageError>
     ensures { result ≡ failover_at avps.now }
 {
     let Some(avp) = find_avp(avps, FAILOVER) else {
         return Ok(None);
     };
-    match failover_in(avp.value.as_slice()) {
+    match failover_in(avp.value) {
         None => Err(MessageError::BadValue {
             attribute: FAILOVER,
         }),
@@ -132,13 +132,13 @@ fn recovery_in(value: &[u8]) -> Option<Recovery>
 
 /// Tunnel Recovery.
 #[tactic(auto, unfolding(crate::specs::Reading::recovery_at))]
-fn recovery_of(avps: &[Avp]) -> Result<Option<Recovery>, MessageError>
+fn recovery_of(avps: &LentAvps<'_>) -> Result<Option<Recovery>, MessageError>
     ensures { result ≡ recovery_at avps.now }
 {
     let Some(avp) = find_avp(avps, RECOVERY) else {
         return Ok(None);
     };
-    match recovery_in(avp.value.as_slice()) {
+    match recovery_in(avp.value) {
         None => Err(MessageError::BadValue {
             attribute: RECOVERY,
         }),
@@ -161,13 +161,13 @@ fn suggested_in(value: &[u8]) -> Option<Suggested>
 
 /// Suggested Control Sequence.
 #[tactic(auto, unfolding(crate::specs::Reading::suggested_at))]
-fn suggested_of(avps: &[Avp]) -> Result<Option<Suggested>, MessageError>
+fn suggested_of(avps: &LentAvps<'_>) -> Result<Option<Suggested>, MessageError>
     ensures { result ≡ suggested_at avps.now }
 {
     let Some(avp) = find_avp(avps, SUGGESTED_SEQUENCE) else {
         return Ok(None);
     };
-    match suggested_in(avp.value.as_slice()) {
+    match suggested_in(avp.value) {
         None => Err(MessageError::BadValue {
             attribute: SUGGESTED_SEQUENCE,
         }),
@@ -187,13 +187,13 @@ fn draw_in(value: &[u8]) -> Option<u32>
 
 /// Draw Number.
 #[tactic(auto, unfolding(crate::specs::Reading::draw_at))]
-fn draw_of(avps: &[Avp]) -> Result<Option<u32>, MessageError>
+fn draw_of(avps: &LentAvps<'_>) -> Result<Option<u32>, MessageError>
     ensures { result ≡ draw_at avps.now }
 {
     let Some(avp) = find_draw(avps) else {
         return Ok(None);
     };
-    match draw_in(avp.value.as_slice()) {
+    match draw_in(avp.value) {
         None => Err(MessageError::BadValue {
             attribute: DRAW_NUMBER,
         }),
@@ -215,13 +215,13 @@ fn response_in(value: &[u8]) -> Option<[u8; 16]>
 
 /// Challenge Response (RFC 2661 section 4.4.3).
 #[tactic(auto, unfolding(crate::specs::Reading::response_at))]
-fn response_of(avps: &[Avp]) -> Result<Option<[u8; 16]>, MessageError>
+fn response_of(avps: &LentAvps<'_>) -> Result<Option<[u8; 16]>, MessageError>
     ensures { result ≡ response_at avps.now }
 {
     let Some(avp) = find_avp(avps, CHALLENGE_RESPONSE) else {
         return Ok(None);
     };
-    match response_in(avp.value.as_slice()) {
+    match response_in(avp.value) {
         None => Err(MessageError::BadValue {
             attribute: CHALLENGE_RESPONSE,
         }),
@@ -234,7 +234,7 @@ fn response_of(avps: &[Avp]) -> Result<Option<[u8; 16]>, MessageError>
 #[tactic(auto, unfolding(crate::specs::Reading::opening_at))]
 fn opening_of(
     alloc: Global,
-    avps: &[Avp],
+    avps: &LentAvps<'_>,
     response: Option<[u8; 16]>,
     recovery: Option<Recovery>,
     suggested: Option<Suggested>,
@@ -267,7 +267,7 @@ fn opening_of(
 
 /// Incoming-Call-Request.
 #[tactic(auto, unfolding(crate::specs::Reading::icrq_at))]
-fn icrq_of(alloc: Global, avps: &[Avp]) -> Result<Message, MessageError>
+fn icrq_of(alloc: Global, avps: &LentAvps<'_>) -> Result<Message, MessageError>
     ensures { Gives Told (λ m. m) result (icrq_at avps.now) }
 {
     let session = u16_of(avps, ASSIGNED_SESSION)?;
@@ -282,7 +282,7 @@ fn icrq_of(alloc: Global, avps: &[Avp]) -> Result<Message, MessageError>
 
 /// Incoming-Call-Reply.
 #[tactic(auto, unfolding(crate::specs::Reading::icrp_at))]
-fn icrp_of(avps: &[Avp]) -> Result<Message, MessageError>
+fn icrp_of(avps: &LentAvps<'_>) -> Result<Message, MessageError>
     ensures { result ≡ icrp_at avps.now }
 {
     let session = u16_of(avps, ASSIGNED_SESSION)?;
@@ -291,7 +291,7 @@ fn icrp_of(avps: &[Avp]) -> Result<Message, MessageError>
 
 /// Incoming-Call-Connected.
 #[tactic(auto, unfolding(crate::specs::Reading::iccn_at))]
-fn iccn_of(avps: &[Avp]) -> Result<Message, MessageError>
+fn iccn_of(avps: &LentAvps<'_>) -> Result<Message, MessageError>
     ensures { result ≡ iccn_at avps.now }
 {
     let framing = u32_of(avps, FRAMING_TYPE)?;
@@ -325,7 +325,7 @@ fn result_code_in(value: &[u8]) -> Result<(u16, Option<u16>), MessageError>
 
 /// Result Code.
 #[tactic(auto, unfolding(crate::specs::Reading::result_code_at))]
-fn result_code_of(avps: &[Avp]) -> Result<(u16, Option<u16>), MessageError>
+fn result_code_of(avps: &LentAvps<'_>) -> Result<(u16, Option<u16>), MessageError>
     ensures { result ≡ result_code_at avps.now }
 {
     let value = value_of(avps, RESULT_CODE)?;
@@ -334,7 +334,7 @@ fn result_code_of(avps: &[Avp]) -> Result<(u16, Option<u16>), MessageError>
 
 /// Stop-Control-Connection-Notification.
 #[tactic(auto, unfolding(crate::specs::Reading::stop_ccn_at))]
-fn stop_ccn_of(avps: &[Avp]) -> Result<Message, MessageError>
+fn stop_ccn_of(avps: &LentAvps<'_>) -> Result<Message, MessageError>
     ensures { result ≡ stop_ccn_at avps.now }
 {
     let (result, error) = result_code_of(avps)?;
@@ -348,7 +348,7 @@ fn stop_ccn_of(avps: &[Avp]) -> Result<Message, MessageError>
 
 /// Outgoing-Call-Request.
 #[tactic(auto, unfolding(crate::specs::Reading::ocrq_at))]
-fn ocrq_of(avps: &[Avp]) -> Result<Message, MessageError>
+fn ocrq_of(avps: &LentAvps<'_>) -> Result<Message, MessageError>
     ensures { result ≡ ocrq_at avps.now }
 {
     let session = u16_of(avps, ASSIGNED_SESSION)?;
@@ -357,7 +357,7 @@ fn ocrq_of(avps: &[Avp]) -> Result<Message, MessageError>
 
 /// Call-Disconnect-Notify.
 #[tactic(auto, unfolding(crate::specs::Reading::cdn_at))]
-fn cdn_of(avps: &[Avp]) -> Result<Message, MessageError>
+fn cdn_of(avps: &LentAvps<'_>) -> Result<Message, MessageError>
     ensures { result ≡ cdn_at avps.now }
 {
     let (result, error) = result_code_of(avps)?;
@@ -371,7 +371,7 @@ fn cdn_of(avps: &[Avp]) -> Result<Message, MessageError>
 
 /// WAN-Error-Notify.
 #[tactic(auto, unfolding(crate::specs::Reading::wen_at))]
-fn wen_of(avps: &[Avp]) -> Result<Message, MessageError>
+fn wen_of(avps: &LentAvps<'_>) -> Result<Message, MessageError>
     ensures { result ≡ wen_at avps.now }
 {
     let _errors = value_of(avps, CALL_ERRORS)?;
@@ -380,7 +380,7 @@ fn wen_of(avps: &[Avp]) -> Result<Message, MessageError>
 
 /// Set-Link-Info.
 #[tactic(auto, unfolding(crate::specs::Reading::sli_at))]
-fn sli_of(avps: &[Avp]) -> Result<Message, MessageError>
+fn sli_of(avps: &LentAvps<'_>) -> Result<Message, MessageError>
     ensures { result ≡ sli_at avps.now }
 {
     let _maps = value_of(avps, ACCM)?;
@@ -401,31 +401,33 @@ fn session_value(value: &[u8]) -> Option<Pair>
 }
 
 /// The session that a pair tells, if it tells one.
-fn session_in(avp: &Avp) -> Option<Pair>
+fn session_in(avp: &AvpRef<'_>) -> Option<Pair>
     ensures { result ≡ session_in avp.now }
 {
     if is_at(avp, SESSION_STATE) {
-        session_value(avp.value.as_slice())
+        session_value(avp.value)
     } else {
         None
     }
 }
 
 /// The sessions that pairs tell, in order.
-fn sessions_in(alloc: Global, avps: &[Avp]) -> Result<Pairs, NoMemory>
+fn sessions_in(alloc: Global, avps: &LentAvps<'_>) -> Result<Pairs, NoMemory>
     ensures { IfOk result (λ sessions. sessions ≡ sessions_in avps.now) }
 {
     let mut sessions = Pairs::new(alloc);
-    for avp in avps {
-        if let Some(session) = session_in(avp) {
+    let mut rest = avps.lend();
+    while let Some((avp, behind)) = rest.split_first() {
+        if let Some(session) = session_in(&avp) {
             sessions.push(session)?;
         }
+        rest = behind;
     }
     Ok(sessions)
 }
 
 /// The message of a kind that the pairs make.
-fn message_of_kind(alloc: Global, kind: Kind, avps: &[Avp]) -> Result<Message, MessageError>
+fn message_of_kind(alloc: Global, kind: Kind, avps: &LentAvps<'_>) -> Result<Message, MessageError>
     ensures { Gives Told (λ m. m) result (of_kind kind avps.now) }
 {
     match kind {
@@ -469,13 +471,13 @@ fn message_of_kind(alloc: Global, kind: Kind, avps: &[Avp]) -> Result<Message, M
 }
 
 /// The number of a Message Type.
-fn number_of_type(avp: &Avp) -> Result<u16, MessageError>
+fn number_of_type(avp: &AvpRef<'_>) -> Result<u16, MessageError>
     ensures { result ≡ type_number avp.now }
 {
     if avp.hidden {
         return Err(MessageError::NoType);
     }
-    match u16_in(avp.value.as_slice(), MESSAGE_TYPE) {
+    match u16_in(avp.value, MESSAGE_TYPE) {
         Ok(number) => Ok(number),
         Err(_) => Err(MessageError::NoType),
     }
@@ -483,11 +485,11 @@ fn number_of_type(avp: &Avp) -> Result<u16, MessageError>
 
 /// The kind of the first Message Type, as a function of the pairs.
 #[tactic(auto, unfolding(crate::specs::Reading::kind_by))]
-fn type_kind(avps: &Avps, known: Kinds) -> Option<Kind>
+fn type_kind(avps: &LentAvps<'_>, known: Kinds) -> Option<Kind>
     ensures { result ≡ kind_by known avps.now }
 {
-    let avp = find_avp(avps.as_slice(), MESSAGE_TYPE)?;
-    match number_of_type(avp) {
+    let avp = find_avp(avps, MESSAGE_TYPE)?;
+    match number_of_type(&avp) {
         Ok(number) => Kind::from_number(known, number),
         Err(_) => None,
     }
@@ -495,7 +497,7 @@ fn type_kind(avps: &Avps, known: Kinds) -> Option<Kind>
 
 /// The kind that the first Message Type names to a reader that knows such messages, whatever else the pairs say: a message
 /// that has a fault is answered by its kind. None where there is no type, where it can't be read, and where it is unknown.
-pub fn kind_of_pairs(avps: &Avps, known: Kinds) -> Option<Kind>
+pub fn kind_of_pairs(avps: &LentAvps<'_>, known: Kinds) -> Option<Kind>
     // A kind that is told is the one that the type names.
     ensures found { IfSome result (λ k. IsOfKind known avps.now k) }
     // None is told exactly where the type names none.
@@ -508,13 +510,13 @@ pub fn kind_of_pairs(avps: &Avps, known: Kinds) -> Option<Kind>
 
 /// The whole reading of plain pairs, with the answer as a function of them.
 #[tactic(auto, unfolding(crate::specs::Reading::message_by))]
-fn read_pairs(alloc: Global, pairs: &[Avp], known: Kinds) -> Result<Read, MessageError>
+fn read_pairs(alloc: Global, pairs: &LentAvps<'_>, known: Kinds) -> Result<Read, MessageError>
     ensures { Gives Told (λ x. x) result (message_by known pairs.now) }
 {
     let Some(avp) = find_avp(pairs, MESSAGE_TYPE) else {
         return Err(MessageError::NoType);
     };
-    let number = number_of_type(avp)?;
+    let number = number_of_type(&avp)?;
     let Some(kind) = Kind::from_number(known, number) else {
         if avp.mandatory {
             return Err(MessageError::UnknownType { number });
@@ -529,33 +531,31 @@ fn read_pairs(alloc: Global, pairs: &[Avp], known: Kinds) -> Result<Read, Messag
 /// The whole reading by a secret.
 fn read_uncovered(
     alloc: Global,
-    pairs: &[Avp],
+    pairs: &LentAvps<'_>,
     secret: &[u8],
     known: Kinds,
 ) -> Result<Read, MessageError>
     ensures { Gives Told (λ x. x) result (message_by known (uncovered_all secret.now None pairs.now)) }
 {
-    match find_hidden(pairs) {
-        None => read_pairs(alloc, pairs, known),
-        Some(_) => {
-            let plain = copy_uncovered(alloc, pairs, secret)?;
-            read_pairs(alloc, plain.as_slice(), known)
-        }
+    if !has_hidden(pairs) {
+        return read_pairs(alloc, pairs, known);
     }
+    let plain = copy_uncovered(alloc, pairs, secret)?;
+    read_pairs(alloc, &LentAvps::of(plain.as_slice()), known)
 }
 
 /// The whole reading, with the answer as a function of the pairs.
 fn read_with(
     alloc: Global,
-    avps: &Avps,
+    avps: &LentAvps<'_>,
     secret: Option<&[u8]>,
     known: Kinds,
 ) -> Result<Read, MessageError>
     ensures { Gives Told (λ x. x) result (message_by known (uncovered (option_copied secret.entry) avps.now)) }
 {
     match secret {
-        None => read_pairs(alloc, avps.as_slice(), known),
-        Some(secret) => read_uncovered(alloc, avps.as_slice(), secret, known),
+        None => read_pairs(alloc, avps, known),
+        Some(secret) => read_uncovered(alloc, avps, secret, known),
     }
 }
 
@@ -566,7 +566,7 @@ fn read_with(
 /// stays hidden can't be read. Nothing is copied to uncover where there is no secret or no pair is hidden.
 pub fn read_message(
     alloc: Global,
-    avps: &Avps,
+    avps: &LentAvps<'_>,
     secret: Option<&[u8]>,
     known: Kinds,
 ) -> Result<Read, MessageError>

@@ -1,6 +1,6 @@
 //! Hidden values that are uncovered by a secret (RFC 2661 section 4.3).
 
-ghost use Rattle.std.specs.Prelude.{◌≡◌, ℕ, ◌≤◌, [], ◌∷◌, ◌++◌, List, Option, Some, None, Ok, length, OnOk, OnErr, IfOk};
+ghost use Rattle.std.specs.Prelude.{◌≡◌, ℕ, ◌≤◌, [], ◌∷◌, ◌++◌, List, Option, Some, None, Ok, length, IfOk, is_some};
 ghost use Rattle.std.specs.Option.{option_copied};
 ghost use Rattle.std.specs.List.{find};
 ghost use Rattle.byteorder.specs.Endian.{big_number};
@@ -19,27 +19,13 @@ ghost use Rattle.control_message.specs.Uncovering.{may_be_uncovered, uncovered_p
 
 use crate::attribute::{MESSAGE_TYPE, RANDOM_VECTOR};
 use crate::finding::{is_at, is_vector};
-use avp_codec::{Avp, Avps};
+use avp_codec::{Avp, AvpRef, Avps, LentAvps};
 use std::alloc::Global;
 use tunnel_secret::{UnhideError, unhide};
-use wire_base::{Bytes, NoMemory};
-
-/// A copy of a pair.
-fn copy_avp(alloc: Global, avp: &Avp) -> Result<Avp, NoMemory>
-    ensures { IfOk result (λ a. a ≡ avp.now) }
-{
-    Ok(Avp {
-        mandatory: avp.mandatory,
-        hidden: avp.hidden,
-        reserved: avp.reserved,
-        vendor: avp.vendor,
-        attribute: avp.attribute,
-        value: Bytes::from_slice(alloc, avp.value.as_slice())?,
-    })
-}
+use wire_base::NoMemory;
 
 /// Whether a pair may be uncovered: it is hidden, and neither the type, which never is, nor an attribute 36.
-fn may_be_uncovered(avp: &Avp) -> bool
+fn may_be_uncovered(avp: &AvpRef<'_>) -> bool
     ensures { result ≡ may_be_uncovered avp.now }
 {
     avp.hidden && !(is_at(avp, MESSAGE_TYPE) || is_at(avp, RANDOM_VECTOR))
@@ -47,15 +33,15 @@ fn may_be_uncovered(avp: &Avp) -> bool
 
 /// What a pair behind a Random Vector is to an end that knows the secret.
 #[tactic(auto, unfolding(crate::specs::Uncovering::uncovered_pair))]
-fn reveal(alloc: Global, secret: &[u8], vector: &[u8], avp: &Avp) -> Result<Avp, NoMemory>
+fn reveal(alloc: Global, secret: &[u8], vector: &[u8], avp: &AvpRef<'_>) -> Result<Avp, NoMemory>
     ensures exact { IfOk result (λ a. a ≡ uncovered_pair secret.now (Some vector.now) avp.now) }
     ensures found { (before : List Avp) → IsVectorBehind before (Some vector.now) →
         IfOk result (λ a. IsUncovered secret.now before avp.now a) }
 {
     if !may_be_uncovered(avp) {
-        return copy_avp(alloc, avp);
+        return avp.copy(alloc);
     }
-    match unhide(alloc, avp.attribute, secret, vector, avp.value.as_slice()) {
+    match unhide(alloc, avp.attribute, secret, vector, avp.value) {
         Ok(value) => Ok(Avp {
             mandatory: avp.mandatory,
             hidden: false,
@@ -64,7 +50,7 @@ fn reveal(alloc: Global, secret: &[u8], vector: &[u8], avp: &Avp) -> Result<Avp,
             attribute: avp.attribute,
             value,
         }),
-        Err(UnhideError::BadLength { .. }) => copy_avp(alloc, avp),
+        Err(UnhideError::BadLength { .. }) => avp.copy(alloc),
         Err(UnhideError::NoMemory) => Err(NoMemory),
     }
 }
@@ -75,82 +61,74 @@ fn uncover_pair(
     alloc: Global,
     secret: &[u8],
     vector: Option<&[u8]>,
-    avp: &Avp,
+    avp: &AvpRef<'_>,
 ) -> Result<Avp, NoMemory>
     ensures exact { IfOk result (λ a. a ≡ uncovered_pair secret.now (option_copied vector.entry) avp.now) }
     ensures found { (before : List Avp) → IsVectorBehind before (option_copied vector.entry) →
         IfOk result (λ a. IsUncovered secret.now before avp.now a) }
 {
     match vector {
-        None => copy_avp(alloc, avp),
+        None => avp.copy(alloc),
         Some(vector) => reveal(alloc, secret, vector, avp),
     }
 }
 
 /// The Random Vector that counts behind a pair.
-fn vector_after<'a>(vector: Option<&'a [u8]>, avp: &'a Avp) -> Option<&'a [u8]>
+fn vector_after<'a>(vector: Option<&'a [u8]>, avp: &AvpRef<'a>) -> Option<&'a [u8]>
     ensures { option_copied result ≡ vector_after (option_copied vector.entry) avp.now }
 {
     if is_vector(avp) {
-        Some(avp.value.as_slice())
+        Some(avp.value)
     } else {
         vector
     }
 }
 
 /// A copy of the pairs, with what the secret uncovers of them uncovered.
-pub(crate) fn copy_uncovered(alloc: Global, avps: &[Avp], secret: &[u8]) -> Result<Avps, NoMemory>
+pub(crate) fn copy_uncovered(
+    alloc: Global,
+    avps: &LentAvps<'_>,
+    secret: &[u8],
+) -> Result<Avps, NoMemory>
     ensures exact { IfOk result (λ plain. plain ≡ uncovered_all secret.now None avps.now) }
     ensures found { IfOk result (UncoversBehind secret.now [] avps.now) }
 {
     let mut plain = Avps::new(alloc);
     let mut vector: Option<&[u8]> = None;
-    for avp in avps {
-        let pair = uncover_pair(alloc, secret, vector, avp)?;
+    let mut rest = avps.lend();
+    while let Some((avp, behind)) = rest.split_first() {
+        let pair = uncover_pair(alloc, secret, vector, &avp)?;
         plain.push(pair)?;
-        vector = vector_after(vector, avp);
+        vector = vector_after(vector, &avp);
+        rest = behind;
     }
     Ok(plain)
 }
 
-/// The first pair that is hidden.
-pub(crate) fn find_hidden(avps: &[Avp]) -> Option<&Avp>
-    ensures { option_copied result ≡ find (λ a. a.hidden) avps.now }
+/// Whether a pair is hidden.
+pub fn has_hidden(avps: &LentAvps<'_>) -> bool
+    ensures { result ≡ is_some (find (λ a. a.hidden) avps.now) }
 {
-    avps.iter().find(|a| a.hidden)
-}
-
-/// Uncovers what a secret uncovers of a list of pairs.
-fn uncover_by(avps: &mut Avps, secret: &[u8]) -> Result<(), NoMemory>
-    ensures found { OnOk result (UncoversBehind secret.now [] avps.old avps.new) }
-    ensures exact { OnOk result (avps.new ≡ uncovered_all secret.now None avps.old) }
-    ensures err { OnErr result (avps.new ≡ avps.old) }
-{
-    match find_hidden(avps.as_slice()) {
-        None => Ok(()),
-        Some(hidden) => {
-            let plain = copy_uncovered(hidden.value.allocator(), avps.as_slice(), secret)?;
-            *avps = plain;
-            Ok(())
+    let mut rest = avps.lend();
+    while let Some((avp, behind)) = rest.split_first() {
+        if avp.hidden {
+            return true;
         }
+        rest = behind;
     }
+    false
 }
 
-/// Uncovers what a secret uncovers of a list of pairs (RFC 2661 section 4.3): the value of a hidden pair behind a Random
-/// Vector, by the last one before it. Message Type and Random Vector itself are never uncovered, and a value that is
-/// none stays hidden. Nothing is copied where there is no secret or no pair is hidden. Where memory is wanting, the
-/// pairs stay as they were.
-pub fn uncover(avps: &mut Avps, secret: Option<&[u8]>) -> Result<(), NoMemory>
+/// A copy of a list of pairs with what a secret uncovers of them uncovered (RFC 2661 section 4.3): the value of a hidden
+/// pair behind a Random Vector, by the last one before it. Message Type and Random Vector itself are never uncovered, and
+/// a value that is none stays hidden.
+pub fn uncover(alloc: Global, avps: &LentAvps<'_>, secret: &[u8]) -> Result<Avps, NoMemory>
     // Each pair is uncovered, or stays for a cause.
-    ensures found { OnOk result (Uncovers (option_copied secret.entry) avps.old avps.new) }
+    ensures found { IfOk result (Uncovers (Some secret.now) avps.now) }
     // For callers: the pairs as a function of the pairs.
-    ensures exact { OnOk result (avps.new ≡ uncovered (option_copied secret.entry) avps.old) }
-    ensures err { OnErr result (avps.new ≡ avps.old) }
+    ensures exact { IfOk result (λ plain. plain ≡ uncovered (Some secret.now) avps.now) }
 {
-    match secret {
-        None => Ok(()),
-        Some(secret) => uncover_by(avps, secret),
-    }
+    copy_uncovered(alloc, avps, secret)
 }
 
 /// A law: pairs of which none is hidden stay as they are.
@@ -182,6 +160,7 @@ pub fn spells_what_was_uncovered()
         AreAvps (uncovered k avps) × (avps_of (spelling (uncovered k avps)) ≡ Ok (uncovered k avps)) }
     ensures read { (k : Option (List ℕ)) (body : List ℕ) (avps : List Avp) → AreBytes body → avps_of body ≡ Ok avps →
         avps_of (spelling (uncovered k avps)) ≡ Ok (uncovered k avps) }
+    ensures are { (k : Option (List ℕ)) (body : List ℕ) (avps : List Avp) → AreBytes body → avps_of body ≡ Ok avps → AreAvps (uncovered k avps) }
 {
     avp_codec::reads_what_was_written();
 }

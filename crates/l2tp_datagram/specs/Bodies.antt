@@ -3,6 +3,8 @@ use Rattle.std.specs.Prelude.{◌≡◌, ℕ, ◌-◌, ◌≤◌, true, List, ta
 use Rattle.wire_base.specs.Answers.{Gives}
 use Rattle.avp_codec.specs.declared.avp.Avp.{Avp}
 use Rattle.avp_codec.specs.declared.error.AvpError.{AvpError}
+use Rattle.avp_codec.specs.declared.lent.Place.{Place}
+use Rattle.avp_codec.specs.Places.{pairs_in}
 use Rattle.avp_codec.specs.Reading.{avps_of, Told}
 use Rattle.l2tp_header.specs.declared.header.Header.{Header}
 use Rattle.l2tp_header.specs.declared.header.HeaderError.{HeaderError}
@@ -15,10 +17,14 @@ body_in h bytes = take (h.end - h.start) (drop h.start bytes)
 abbrev pub AreRead : List ℕ → Result (List Avp) AvpError → Type 0
 AreRead body pairs = Gives Told (λ v. v) pairs (avps_of body)
 
+-- places in a body, which are those of its pairs
+abbrev pub ArePlaces : List ℕ → Result (List Place) AvpError → Type 0
+ArePlaces body places = Gives Told (λ v. pairs_in body v) places (avps_of body)
+
 -- those of a control message
-abbrev pub AreReadOf : List ℕ → Result Header HeaderError → Result (List Avp) AvpError → Type 0
-AreReadOf bytes (Ok h) pairs = h.control ≡ true → AreRead (body_in h bytes) pairs
-AreReadOf bytes (Err e) pairs = Unit {0}
+abbrev pub AreReadOf : List ℕ → Result Header HeaderError → Result (List Place) AvpError → Type 0
+AreReadOf bytes (Ok h) places = h.control ≡ true → ArePlaces (body_in h bytes) places
+AreReadOf bytes (Err e) places = Unit {0}
 
 -- the body lies in the datagram
 abbrev pub LiesInside : List ℕ → Result Header HeaderError → Type 0

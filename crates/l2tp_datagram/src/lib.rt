@@ -1,22 +1,23 @@
-//! A datagram with what stands at its front: its header is read once, and so are the pairs of a control message.
+//! A datagram with what stands at its front: its header is read once, and so are the pairs of a control message, as places in it.
 #![tactic(auto)]
 
 ghost use Rattle.std.specs.Prelude.{◌≡◌, true, length, Ok, nat_eq};
 ghost use Rattle.l2tp_header.specs.Reading.{header_of};
 ghost use Rattle.l2tp_datagram.specs.Bodies.{body_in, AreRead, AreReadOf, LiesInside};
 
-use avp_codec::{AvpError, Avps, read_avps};
+use avp_codec::{AvpError, LentAvps, Places, read_places};
 use l2tp_header::{Header, HeaderError, read_header};
 use std::alloc::Global;
 use std::marker::Model;
 use wire_base::Bytes;
 
-/// A datagram, seen as its bytes. Beside them stand its header and its pairs (RFC 2661 sections 3.1 and 4.1), as they were read.
+/// A datagram, seen as its bytes. Beside them stand its header and the places of its pairs (RFC 2661 sections 3.1 and 4.1), as they
+/// were read.
 #[derive(Drop)]
 pub struct Datagram {
     bytes: Bytes,
     header: Result<Header, HeaderError>,
-    pairs: Result<Avps, AvpError>,
+    places: Result<Places, AvpError>,
 }
 
 impl Model for Datagram {
@@ -28,39 +29,39 @@ impl Model for Datagram {
 
     ghost view = { λ d. d.bytes };
 
-    ghost invariant = { λ d. (d.header ≡ header_of d.bytes) × AreReadOf d.bytes d.header d.pairs × LiesInside d.bytes d.header };
+    ghost invariant = { λ d. (d.header ≡ header_of d.bytes) × AreReadOf d.bytes d.header d.places × LiesInside d.bytes d.header };
 }
 
 /// The body of a control message, seen as its bytes, with its pairs.
 #[derive(Drop)]
 pub struct Body<'a> {
     bytes: &'a [u8],
-    pairs: &'a Result<Avps, AvpError>,
+    places: &'a Result<Places, AvpError>,
 }
 
 impl<'a> Model for Body<'a> {
     ghost use Rattle.std.specs.Prelude.{ℕ, List};
-    ghost use Rattle.l2tp_datagram.specs.Bodies.{AreRead};
+    ghost use Rattle.l2tp_datagram.specs.Bodies.{ArePlaces};
 
     ghost Value = { List ℕ };
 
     ghost view = { λ b. b.bytes.now };
 
-    ghost invariant = { λ b. AreRead b.bytes.now b.pairs.now };
+    ghost invariant = { λ b. ArePlaces b.bytes.now b.places.now };
 }
 
-/// The pairs of a datagram with this header.
-fn pairs_in(
+/// The places of the pairs of a datagram with this header, in its body.
+fn places_in(
     alloc: Global,
     bytes: &[u8],
     header: &Result<Header, HeaderError>,
-) -> Result<Avps, AvpError>
+) -> Result<Places, AvpError>
     requires { LiesInside bytes.now header.now }
     ensures { AreReadOf bytes.now header.now result }
 {
     match header {
-        Ok(header) if header.control => read_avps(alloc, &bytes[header.start..header.end]),
-        _ => Ok(Avps::new(alloc)),
+        Ok(header) if header.control => read_places(alloc, &bytes[header.start..header.end]),
+        _ => Ok(Places::new(alloc)),
     }
 }
 
@@ -71,11 +72,11 @@ impl Datagram {
         ensures { result ≡ bytes }
     {
         let header = read_header(bytes.as_slice());
-        let pairs = pairs_in(alloc, bytes.as_slice(), &header);
+        let places = places_in(alloc, bytes.as_slice(), &header);
         Datagram {
             bytes,
             header,
-            pairs,
+            places,
         }
     }
 
@@ -102,7 +103,7 @@ impl Datagram {
     {
         Body {
             bytes: &self.bytes.as_slice()[header.start..header.end],
-            pairs: &self.pairs,
+            places: &self.places,
         }
     }
 }
@@ -123,9 +124,12 @@ impl<'a> Body<'a> {
     }
 
     /// The pairs that it spells, or the first fault of them, or that memory was wanting as it was read.
-    pub fn pairs(&self) -> &Result<Avps, AvpError>
-        ensures { AreRead self.now result.now }
+    pub fn pairs(&self) -> Result<LentAvps<'a>, AvpError>
+        ensures { AreRead self.now result }
     {
-        self.pairs
+        match self.places {
+            Ok(places) => Ok(LentAvps::new(self.bytes, places.as_slice())),
+            Err(error) => Err(*error),
+        }
     }
 }

@@ -5,7 +5,7 @@ ghost use Rattle.tunnel_fsm.specs.declared.table.TunnelEvent.TheVariants as even
 ghost use Rattle.control_message.specs.Reading.{kind_of_pairs};
 ghost use Rattle.end_model.specs.Reading.{message_in, pairs_read, fault_cause, is_about_call, is_request, is_value, is_for_call, fault_of_kind, fault_of_pairs, call_fault_in, event_of_kind, told_by_kind, closing, closing_by, tunnel_fault_of_kind, tunnel_fault_read, tunnel_fault_of_pairs, tunnel_fault_in};
 
-use avp_codec::{AvpError, Avps};
+use avp_codec::{AvpError, LentAvps};
 use control_message::{
     Kind, Kinds, Message, MessageError, Read, assigned_session, assigned_tunnel, kind_of_pairs,
     read_message,
@@ -92,7 +92,7 @@ fn is_for_call(kind: Kind, session: Option<u16>, cause: Option<Cause>) -> bool
 }
 
 /// The fault of pairs that aren't read, where they are about a call.
-fn fault_of(avps: &Avps, error: MessageError) -> Option<CallFault>
+fn fault_of(avps: &LentAvps<'_>, error: MessageError) -> Option<CallFault>
     ensures { result ≡ fault_of_kind (kind_of_pairs avps.now) error avps.now }
 {
     let kind = kind_of_pairs(avps, Kinds::Base)?;
@@ -123,7 +123,7 @@ fn event_of_kind(kind: Kind) -> TunnelEvent
 }
 
 /// The tunnel id that an SCCRP tells, where that can be read, else 0.
-fn told_by_kind(kind: Kind, avps: &Avps) -> u16
+fn told_by_kind(kind: Kind, avps: &LentAvps<'_>) -> u16
     ensures { result ≡ told_by_kind kind avps.now }
 {
     match kind {
@@ -144,7 +144,7 @@ fn closing(cause: Cause) -> Option<TunnelFault>
 }
 
 /// The fault of pairs of a known kind that aren't read, where they aren't about a call.
-fn closing_of_kind(avps: &Avps, error: MessageError) -> Option<TunnelFault>
+fn closing_of_kind(avps: &LentAvps<'_>, error: MessageError) -> Option<TunnelFault>
     ensures { result ≡ tunnel_fault_of_kind (kind_of_pairs avps.now) error avps.now }
 {
     let kind = kind_of_pairs(avps, Kinds::Base)?;
@@ -161,7 +161,7 @@ fn closing_of_kind(avps: &Avps, error: MessageError) -> Option<TunnelFault>
 }
 
 /// The fault of pairs that aren't read, where they aren't about a call.
-fn closing_of(avps: &Avps, error: MessageError) -> Option<TunnelFault>
+fn closing_of(avps: &LentAvps<'_>, error: MessageError) -> Option<TunnelFault>
     ensures { result ≡ tunnel_fault_read avps.now (Err error) }
 {
     match error {
@@ -173,7 +173,7 @@ fn closing_of(avps: &Avps, error: MessageError) -> Option<TunnelFault>
 
 /// What pairs say.
 #[tactic(auto, unfolding(end_model::specs::Reading::message_read, end_model::specs::Reading::pairs_read, end_model::specs::Reading::fault_of_pairs, end_model::specs::Reading::tunnel_fault_of_pairs))]
-fn said_of(alloc: Global, avps: &Avps) -> Result<Said, NoMemory>
+fn said_of(alloc: Global, avps: &LentAvps<'_>) -> Result<Said, NoMemory>
     ensures message { IfOk result (λ said. said.message ≡ pairs_read (Ok avps.now)) }
     ensures fault { IfOk result (λ said. said.fault ≡ fault_of_pairs (Ok avps.now)) }
     ensures closing { IfOk result (λ said. said.closing ≡ tunnel_fault_of_pairs (Ok avps.now)) }
@@ -206,7 +206,7 @@ pub fn read_body(alloc: Global, body: &Body<'_>) -> Result<Said, NoMemory>
     ensures closing { IfOk result (λ said. said.closing ≡ tunnel_fault_in body.now) }
 {
     match body.pairs() {
-        Ok(avps) => said_of(alloc, avps),
+        Ok(avps) => said_of(alloc, &avps),
         Err(AvpError::NoMemory) => Err(NoMemory),
         Err(_) => Ok(Said {
             message: Err(Why::Avp),

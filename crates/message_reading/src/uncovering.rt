@@ -1,15 +1,13 @@
 //! Datagrams whose hidden values a secret uncovers (RFC 2661 section 4.3).
 
 ghost use Rattle.std.specs.Prelude.{◌≡◌, ◌≤◌, length, unwrap_or, IfOk, Some, Ok};
-ghost use Rattle.std.specs.Option.{option_copied};
-ghost use Rattle.std.specs.List.{find};
 ghost use Rattle.avp_codec.specs.Reading.{avps_of};
 ghost use Rattle.avp_codec.specs.Spelling.{AreAvps, spelling};
 ghost use Rattle.l2tp_header.specs.Spelling.{control_bytes};
 ghost use Rattle.control_message.specs.Uncovering.{uncovered};
 ghost use Rattle.end_model.specs.Secrets.{has_hidden, uncovered_pairs, uncovered_datagram};
 
-use avp_codec::{Avp, AvpError, Avps, read_avps, spell_avps};
+use avp_codec::{AvpError, LentAvps, spell_avps};
 use control_message::{spells_what_was_uncovered, uncover};
 use l2tp_datagram::{Body, Datagram};
 use l2tp_header::{Header, write_control};
@@ -19,28 +17,19 @@ use wire_base::{Bytes, NoMemory};
 /// How many bytes of pairs a control message has room for, whose length field counts the header's 12 bytes too.
 const ROOM: usize = 65_523;
 
-/// The first pair that is hidden.
-fn find_hidden(avps: &[Avp]) -> Option<&Avp>
-    ensures { option_copied result ≡ find (λ a. a.hidden) avps.now }
-{
-    avps.iter().find(|a| a.hidden)
-}
-
 /// Whether a pair is hidden.
-fn has_hidden(avps: &[Avp]) -> bool
+fn has_hidden(avps: &LentAvps<'_>) -> bool
     ensures { result ≡ has_hidden avps.now }
 {
-    find_hidden(avps).is_some()
+    control_message::has_hidden(avps)
 }
 
 /// The pairs as bytes, with what the secret uncovers of them uncovered.
-fn spell_uncovered(alloc: Global, secret: &[u8], avps: Avps) -> Result<Bytes, NoMemory>
-    requires { AreAvps avps }
-    ensures { IfOk result (λ pairs. pairs ≡ spelling (uncovered (Some secret.now) avps)) }
+fn spell_uncovered(alloc: Global, secret: &[u8], avps: &LentAvps<'_>) -> Result<Bytes, NoMemory>
+    requires { AreAvps (uncovered (Some secret.now) avps.now) }
+    ensures { IfOk result (λ pairs. pairs ≡ spelling (uncovered (Some secret.now) avps.now)) }
 {
-    spells_what_was_uncovered();
-    let mut plain = avps;
-    uncover(&mut plain, Some(secret))?;
+    let plain = uncover(alloc, avps, secret)?;
     spell_avps(alloc, plain.as_slice())
 }
 
@@ -57,20 +46,22 @@ fn with_pairs(alloc: Global, header: &Header, pairs: &[u8]) -> Result<Bytes, NoM
     Ok(bytes)
 }
 
-/// A control message with these pairs, where one of them is hidden and there is room for what they are then.
+/// A control message with this body, which spells these pairs, where one of them is hidden and there is room for what they are then.
 fn uncover_pairs(
     alloc: Global,
     secret: &[u8],
     bytes: &[u8],
     header: &Header,
-    avps: Avps,
+    body: &[u8],
+    avps: &LentAvps<'_>,
 ) -> Result<Option<Bytes>, NoMemory>
-    requires { AreAvps avps }
-    ensures { IfOk result (λ r. unwrap_or r bytes.now ≡ uncovered_pairs secret.now bytes.now header.now (Ok avps)) }
+    requires { avps_of body.now ≡ Ok avps.now }
+    ensures { IfOk result (λ r. unwrap_or r bytes.now ≡ uncovered_pairs secret.now bytes.now header.now (Ok avps.now)) }
 {
-    if !has_hidden(avps.as_slice()) {
+    if !has_hidden(avps) {
         return Ok(None);
     }
+    spells_what_was_uncovered();
     let pairs = spell_uncovered(alloc, secret, avps)?;
     if pairs.len() > ROOM {
         return Ok(None);
@@ -79,24 +70,7 @@ fn uncover_pairs(
     Ok(Some(plain))
 }
 
-/// A control message with this body, of which a pair is hidden.
-fn uncover_hidden(
-    alloc: Global,
-    secret: &[u8],
-    bytes: &[u8],
-    header: &Header,
-    body: &[u8],
-) -> Result<Option<Bytes>, NoMemory>
-    ensures { IfOk result (λ r. unwrap_or r bytes.now ≡ uncovered_pairs secret.now bytes.now header.now (avps_of body.now)) }
-{
-    match read_avps(alloc, body) {
-        Ok(avps) => uncover_pairs(alloc, secret, bytes, header, avps),
-        Err(AvpError::NoMemory) => Err(NoMemory),
-        Err(_) => Ok(None),
-    }
-}
-
-/// A control message with this body. Its pairs are read again only where one of them is hidden.
+/// A control message with this body.
 fn uncover_body(
     alloc: Global,
     secret: &[u8],
@@ -107,12 +81,7 @@ fn uncover_body(
     ensures { IfOk result (λ r. unwrap_or r bytes.now ≡ uncovered_pairs secret.now bytes.now header.now (avps_of body.now)) }
 {
     match body.pairs() {
-        Ok(avps) => {
-            if !has_hidden(avps.as_slice()) {
-                return Ok(None);
-            }
-            uncover_hidden(alloc, secret, bytes, header, body.as_slice())
-        }
+        Ok(avps) => uncover_pairs(alloc, secret, bytes, header, body.as_slice(), &avps),
         Err(AvpError::NoMemory) => Err(NoMemory),
         Err(_) => Ok(None),
     }

@@ -3,7 +3,7 @@
 ghost use Rattle.std.specs.Prelude.{◌≡◌, Ok, IfOk};
 ghost use Rattle.end_model.specs.Reading.{at_zero, zero_pairs, stopped};
 
-use avp_codec::{AvpError, Avps};
+use avp_codec::{AvpError, LentAvps};
 use control_message::{Kind, Kinds, assigned_tunnel, kind_of_pairs};
 use end_model::Addressee;
 use l2tp_datagram::Body;
@@ -21,7 +21,7 @@ fn stopped(told: Option<u16>) -> Addressee
 
 /// What a message at tunnel 0 is for, by its kind and by the tunnel id that its pairs tell. Whether they have a fault changes nothing.
 #[tactic(auto, using(crate::proofs::Tunnels::zero_is), unfolding(end_model::specs::Reading::zero_pairs))]
-fn zero_pairs(avps: &Avps) -> Addressee
+fn zero_pairs(avps: &LentAvps<'_>) -> Addressee
     ensures { result ≡ zero_pairs (Ok avps.now) }
 {
     match kind_of_pairs(avps, Kinds::Base) {
@@ -44,7 +44,7 @@ pub fn at_zero(body: &Body<'_>) -> Result<Addressee, NoMemory>
     ensures { IfOk result (λ to. to ≡ at_zero body.now) }
 {
     match body.pairs() {
-        Ok(avps) => Ok(zero_pairs(avps)),
+        Ok(avps) => Ok(zero_pairs(&avps)),
         Err(AvpError::NoMemory) => Err(NoMemory),
         Err(_) => Ok(Addressee::Nobody { why: Why::Avp }),
     }

@@ -2,7 +2,7 @@
 
 use crate::end::{End, answer as new_answer, attempt as new_attempt};
 use crate::row::{Fault, Row, told};
-use avp_codec::read_avps;
+use avp_codec::{LentAvps, read_places};
 use control_message::{Kinds, Message, Read, read_message};
 use recovery_tunnel::judge;
 use std::alloc::Global;
@@ -13,12 +13,9 @@ fn message(alloc: Global, digits: &str) -> Result<Message, Fault> {
     let Ok(bytes) = hex::decode(alloc, digits) else {
         return Err(Fault::NotARow);
     };
-    match read_message(
-        alloc,
-        &read_avps(alloc, bytes.as_slice())?,
-        None,
-        Kinds::Queries,
-    )? {
+    let places = read_places(alloc, bytes.as_slice())?;
+    let avps = LentAvps::new(bytes.as_slice(), places.as_slice());
+    match read_message(alloc, &avps, None, Kinds::Queries)? {
         Read::Known(message) => Ok(message),
         Read::Ignored { .. } => Err(Fault::NotARow),
     }

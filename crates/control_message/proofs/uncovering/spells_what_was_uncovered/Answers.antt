@@ -14,3 +14,6 @@ pub returns-clause-read : goal.returns-clause-read
 returns-clause-read c = λ k body avps bytes h.
     let fit = uncovered_fit k avps (is_found body (Ok avps) bytes h).0 in
     c.reads_what_was_written.ensures (uncovered k avps) fit
+
+pub returns-clause-are : goal.returns-clause-are
+returns-clause-are c = λ k body avps bytes h. uncovered_fit k avps (is_found body (Ok avps) bytes h).0
