@@ -1,3 +1,4 @@
+mod Heads
 pub mod Places
 pub mod Laws
 pub mod Again
