@@ -1,6 +1,6 @@
 //! What a step works in.
 
-ghost use Rattle.std.specs.Prelude.{◌≡◌, OnOk, OnErr};
+ghost use Rattle.std.specs.Prelude.{◌≡◌, ◌++◌, [], OnOk, OnErr};
 ghost use Rattle.end_model.specs.Turn.{with_turn};
 
 use crate::turn::Turn;
@@ -44,6 +44,21 @@ impl Model for Env {
     ghost invariant = { λ e. (e.tunnels.last ≤ 65535) × (e.sessions.last ≤ 65535) };
 }
 
+/// Takes in what was given behind what was given before; where that is nothing, the list itself, and no copy of it. Where memory is
+/// wanting, both are as before.
+fn take_all<T: Drop>(before: &mut Sequence<T>, given: &mut Sequence<T>) -> Result<(), NoMemory>
+    ensures ok { OnOk result (before.new ≡ before.old ++ given.old) }
+    ensures emptied { OnOk result (given.new ≡ []) }
+    ensures err { OnErr result (before.new ≡ before.old) }
+    ensures stays { OnErr result (given.new ≡ given.old) }
+{
+    if before.len() != 0 {
+        return before.append(given);
+    }
+    std::mem::swap(before, given);
+    Ok(())
+}
+
 impl Env {
     /// Takes in what a turn gave. Where memory is wanting, the environment is as before.
     #[tactic(auto, unfolding(end_model::specs::Turn::with_turn))]
@@ -59,12 +74,12 @@ impl Env {
     {
         let outputs = self.outputs.len();
         let changes = self.changes.len();
-        self.outputs.append(&mut turn.outputs)?;
-        if self.changes.append(&mut turn.changes).is_err() {
+        take_all(&mut self.outputs, &mut turn.outputs)?;
+        if take_all(&mut self.changes, &mut turn.changes).is_err() {
             self.outputs.truncate(outputs);
             return Err(NoMemory);
         }
-        if self.moves.append(&mut turn.moves).is_err() {
+        if take_all(&mut self.moves, &mut turn.moves).is_err() {
             self.changes.truncate(changes);
             self.outputs.truncate(outputs);
             return Err(NoMemory);

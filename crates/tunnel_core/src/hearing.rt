@@ -1,9 +1,10 @@
 //! Control messages of a tunnel.
 
-ghost use Rattle.std.specs.Prelude.{◌≡◌, ℕ, OnOk};
+ghost use Rattle.std.specs.Prelude.{◌≡◌, ℕ, false, OnOk};
 ghost use Rattle.control_message.specs.declared.message.Message.TheVariants.{Sccrq, Sccrp, Scccn};
 ghost use Rattle.l2tp_header.specs.Reading.{header_of};
 ghost use Rattle.end_model.specs.Hearing.{connects, takes, about_call, in_call, hears, hears_said, hears_next, hears_letter, is_duplicate, in_tunnel, first_said, hears_control, hears_datagram};
+ghost use Rattle.end_model.specs.Sending.{settles};
 ghost use Rattle.end_model.specs.Asking.{session_named};
 ghost use Rattle.end_model.specs.Connecting.{ends_named};
 
@@ -340,6 +341,20 @@ fn hear_first(
     }
 }
 
+/// The first step of a tunnel that is new, by what its peer's first message says.
+pub(crate) fn hear_opening(
+    turn: &mut Turn,
+    role: Role,
+    config: &Config,
+    letters: &Letters,
+    said: &Result<Message, Why>,
+) -> Result<(), NoMemory>
+    ensures { OnOk result (turn.new ≡ settles false letters.now.letters (first_said role config.now said.now turn.old)) }
+{
+    hear_first(turn, role, config, said)?;
+    turn.settle(false, letters)
+}
+
 /// A control message for the tunnel: its Nr is read first.
 #[tactic(auto, unfolding(end_model::specs::Hearing::hears_control))]
 fn hear_control(
@@ -355,8 +370,7 @@ fn hear_control(
 {
     if turn.control.state == TunnelState::Idle {
         let said = read_body(turn.alloc, body)?;
-        hear_first(turn, role, config, &said.message)?;
-        return turn.settle(false, letters);
+        return hear_opening(turn, role, config, letters, &said.message);
     }
     let ns = header.ns.unwrap_or(0);
     let class = turn.control.channel.classify(ns, body.is_empty());

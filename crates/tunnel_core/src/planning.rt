@@ -1,6 +1,8 @@
 //! A tunnel with its calls: an event is planned, and then made.
 
-ghost use Rattle.std.specs.Prelude.{◌≡◌, ◌≤◌, ◌++◌, [], length, OnOk, OnErr, IfOk};
+ghost use Rattle.std.specs.Prelude.{◌≡◌, ◌≤◌, ◌++◌, [], length, false, OnOk, OnErr, IfOk};
+ghost use Rattle.end_model.specs.Sending.{settles};
+ghost use Rattle.end_model.specs.Hearing.{first_said};
 ghost use Rattle.end_model.specs.Openings.{fresh};
 ghost use Rattle.end_model.specs.Tunnels.{turn_of};
 ghost use Rattle.end_model.specs.Turn.{with_turn};
@@ -10,8 +12,10 @@ ghost use Rattle.tunnel_core.specs.Cores.{tunnel_of, made_of, AllHaveRoom, HasRo
 
 use crate::env::Env;
 use crate::events::run;
+use crate::hearing::hear_opening;
 use crate::turn::{Changed, Given, Turn};
 use control_channel::ChannelNumbers;
+use control_message::Message;
 use end_model::{Call, Config, Control, Event, Role};
 use id_table::Table;
 use send_window::Letters;
@@ -20,7 +24,7 @@ use std::marker::Model;
 use tunnel_calls::TunnelCalls;
 use tunnel_fsm::TunnelState;
 use tunnel_timers::channel_due;
-use wire_base::{NoMemory, Sequence};
+use wire_base::{NoMemory, Sequence, Why};
 
 /// What counts as the peer's receive window, in letters, as long as it isn't known (RFC 2661 section 4.4.3).
 const WINDOW: u16 = 4;
@@ -28,14 +32,8 @@ const WINDOW: u16 = 4;
 /// What a step of a tunnel is about to change.
 #[derive(Drop)]
 pub struct Planned {
-    control: Control,
-    acked: usize,
-    given: Given,
-    cleared: bool,
-    changed: Changed,
-    added: Sequence<u16>,
-    /// The sessions of the calls that end, whose room goes back.
-    ended: Sequence<u32>,
+    /// The turn that the step is. It is handed on through some calls, so that it stands in a box.
+    turn: Box<Turn>,
 }
 
 impl Model for Planned {
@@ -43,7 +41,7 @@ impl Model for Planned {
 
     ghost Value = { Plan };
 
-    ghost view = { λ p. record { control = p.control; acked = p.acked; given = p.given; cleared = p.cleared; changed = p.changed; added = p.added } };
+    ghost view = { λ p. record { control = p.turn.value.control; acked = p.turn.value.acked; given = p.turn.value.given; cleared = p.turn.value.cleared; changed = p.turn.value.changed; added = p.turn.value.added } };
 }
 
 impl Planned {
@@ -51,28 +49,28 @@ impl Planned {
     pub fn control(&self) -> &Control
         ensures { result.now ≡ self.now.control }
     {
-        &self.control
+        &self.turn.control
     }
 
     /// The tunnel's local id after the step, 0 where it drew none.
     pub fn local(&self) -> u16
         ensures { result ≡ self.now.control.local }
     {
-        self.control.local
+        self.turn.control.local
     }
 
     /// Whether the step removes the tunnel with its calls.
     pub fn clears(&self) -> bool
         ensures { result ≡ self.now.cleared }
     {
-        self.cleared
+        self.turn.cleared
     }
 
     /// The local session ids of the calls that the step makes, in the order in which they are drawn.
     pub fn added(&self) -> &[u16]
         ensures { result.now ≡ self.now.added }
     {
-        self.added.as_slice()
+        self.turn.added.as_slice()
     }
 }
 
@@ -176,19 +174,42 @@ impl TunnelCore {
     {
         let mut turn = Box::new(self.alloc, Turn::new(self.alloc, self.control, env))?;
         run(&mut turn, role, config, &self.letters, &self.calls, event)?;
+        self.planned(env, turn)
+    }
+
+    /// Plans the first step of a tunnel that is new, which its peer's first message makes, by what that says, as `plan` does by the
+    /// event.
+    pub fn plan_first(
+        &mut self,
+        role: Role,
+        config: &Config,
+        env: &mut Env,
+        said: &Result<Message, Why>,
+    ) -> Result<Planned, NoMemory>
+        ensures same { tunnel_of self.new ≡ tunnel_of self.old }
+        ensures planned { IfOk result (λ p. IsTurn p (settles false self.old.letters.letters (first_said role config.now said.now (turn_of self.old.control env.old)))) }
+        ensures room { IfOk result (λ p. HasRoomFor self.new p) }
+        ensures given { OnOk result (env.new ≡ with_turn (settles false self.old.letters.letters (first_said role config.now said.now (turn_of self.old.control env.old))) env.old) }
+        ensures kept { OnErr result (env.new ≡ env.old) }
+    {
+        let mut turn = Box::new(self.alloc, Turn::new(self.alloc, self.control, env))?;
+        hear_opening(&mut turn, role, config, &self.letters, said)?;
+        self.planned(env, turn)
+    }
+
+    /// The plan of a step that is this turn, with all room for what it changes; what it gives is written into `env`.
+    fn planned(&mut self, env: &mut Env, turn: Box<Turn>) -> Result<Planned, NoMemory>
+        ensures same { tunnel_of self.new ≡ tunnel_of self.old }
+        ensures planned { IfOk result (λ p. IsTurn p turn.value) }
+        ensures room { IfOk result (λ p. HasRoomFor self.new p) }
+        ensures given { OnOk result (env.new ≡ with_turn turn.value env.old) }
+        ensures kept { OnErr result (env.new ≡ env.old) }
+    {
+        let mut turn = turn;
         make_room(&mut self.calls, turn.changed.as_slice())?;
         self.letters.reserve(turn.given.len())?;
         env.take_in(&mut turn)?;
-        let turn = Box::into_inner(turn);
-        Ok(Planned {
-            control: turn.control,
-            acked: turn.acked,
-            given: turn.given,
-            cleared: turn.cleared,
-            changed: turn.changed,
-            added: turn.added,
-            ended: turn.ended,
-        })
+        Ok(Planned { turn })
     }
 
     /// Makes the planned step. It takes no memory.
@@ -196,12 +217,12 @@ impl TunnelCore {
         requires { HasRoomFor self.old planned }
         ensures { tunnel_of self.new ≡ made_of planned (tunnel_of self.old) }
     {
-        self.control = planned.control;
-        self.letters
-            .drop_first(planned.acked.min(self.letters.len()));
-        give_all(&mut self.letters, planned.given);
-        put_all(&mut self.calls, planned.changed);
-        give_back(&mut self.calls, planned.ended.as_slice());
+        let turn = Box::into_inner(planned.turn);
+        self.control = turn.control;
+        self.letters.drop_first(turn.acked.min(self.letters.len()));
+        give_all(&mut self.letters, turn.given);
+        put_all(&mut self.calls, turn.changed);
+        give_back(&mut self.calls, turn.ended.as_slice());
     }
 
     /// A step on an event. Where memory is wanting, the tunnel and `env` are as before.
