@@ -19,13 +19,13 @@ use Rattle.end_model.specs.Calls.{is_up, advanced, rung, asked_for, with_numbers
 use Rattle.end_model.specs.Channels.{counts_given, counts_taken}
 use Rattle.end_model.specs.Contents.{records_of}
 use Rattle.end_model.specs.End.{End}
-use Rattle.end_model.specs.Links.{with_link, link_after}
+use Rattle.end_model.specs.Links.{with_link}
 use Rattle.end_model.specs.Messages.{flags_of}
 use Rattle.end_model.specs.Moments.{is_open}
 use Rattle.end_model.specs.Tunnels.{Tunnel}
-use Rattle.lcp_end.specs.Laws.{after as lcp_after}
+use Rattle.call_link.specs.Laws.{turn_at}
 use Rattle.step_laws.specs.Callers.{wanted_by_lac}
-use Rattle.step_laws.specs.Links.{begun_link}
+use Rattle.call_link.specs.Link.{new_link}
 use Rattle.step_laws.specs.Moves.{Does, begun}
 use Rattle.book_laws.specs.Books.{Mirrors, AreDrawn, HasNone, CallFits, TablesFit, booked_call}
 use Rattle.book_laws.proofs.Fitting.{Grows, call_later, more_few}
@@ -170,7 +170,7 @@ module _ (e x : End) (k : Kept) (fit : TablesFit e) (drawn : AreDrawn e k) (book
       (ap (λ n. n == 3) h.open_is) (ap is_up state.0) (ap is_up state.1))
   does_go moment ev (move.SecondUp m) h =
       let grows = same_spaces e x (ap (λ (y : End). y.role) h.after) (ap (λ (y : End). y.tunnel_ids) h.after) (ap (λ (y : End). y.session_ids) h.after) in
-      let new = with_link (begun_link h.magic) (with_numbers m.sequenced (advanced e.role call_event.IccnAcc moment h.call)) in
+      let new = with_link (new_link (record { moment = moment; block = h.block })) (with_numbers m.sequenced (advanced e.role call_event.IccnAcc moment h.call)) in
       let lns = connected_is_lns e.role h.call.state h.row in
       let was = (fit.tunnels m.tunnel h.tunnel h.there).calls m.session h.call h.made in
       let zeros = lns_none e.role h.call lns was.none in
@@ -225,7 +225,7 @@ module _ (e x : End) (k : Kept) (fit : TablesFit e) (drawn : AreDrawn e k) (book
   does_go moment ev (move.Negotiated m) h =
       let grows = same_spaces e x (ap (λ (y : End). y.role) h.after) (ap (λ (y : End). y.tunnel_ids) h.after) (ap (λ (y : End). y.session_ids) h.after) in
       let was = (fit.tunnels m.tunnel h.tunnel h.there).calls m.session h.call h.live in
-      let new = with_link (link_after h.calls.link (lcp_after h.calls.by h.calls.link.lcp)) h.call in
+      let new = with_link (turn_at h.calls.by h.calls.link).link h.call in
       call_goes e x k fit drawn book m.tunnel h.tunnel _ _ m.session new h.there grows (ap (λ (y : End). y.tunnels) h.after) (same_control h.tunnel.control) h.call h.live
       (call_then e x h.tunnel h.tunnel m.session h.call new grows was (alike_none e.role h.call new refl (λ n. n) was.none) (λ up. was.up up))
       refl

@@ -1,5 +1,5 @@
 -- How a link ends, and what is left of it then.
-use Rattle.std.proofs.Common.{◌≡◌, Bool, true, false, not, ◌&&◌, ◌||◌, List, [], ◌∷◌, map, Some, is_some, unwrap_or, refl, sym, ap}
+use Rattle.std.proofs.Common.{◌≡◌, Bool, true, false, not, ◌&&◌, ◌||◌, List, [], ◌∷◌, map, Some, is_some, refl, sym, ap}
 use Rattle.wire_base.specs.declared.cause.Cause.{Cause}
 use Rattle.wire_base.specs.declared.cause.Cause.TheVariants as cause
 use Rattle.call_link.specs.declared.env.LinkEnv.{LinkEnv}
@@ -7,7 +7,8 @@ use Rattle.call_link.specs.Link.{Link}
 use Rattle.call_link.specs.Frames.{lcp_frame}
 use Rattle.call_link.specs.Turns.{LinkCall, Opens, Ticks, Hears, is_called, lcp_turn, end_by, still, linked}
 use Rattle.call_link.specs.Laws.{LinkStep, turn_at, AreStill, EachEndsForGood, EndsByLcp, EachEndsByLcp, EachEndIsTold}
-use Rattle.call_link.proofs.Calling.{by_called, not_over, or_false}
+use Rattle.call_link.specs.Calling.{by_called, not_over, or_false}
+use Rattle.call_link.specs.Told.{ended_for}
 use Rattle.call_link.proofs.Silence.{turn_end}
 
 is_some_end : (b : Bool) → b ≡ is_some (end_by b)
@@ -42,10 +43,6 @@ each_ends_for_good l = record { over = is_over l; stays = all_still l }
 ended : (b : Bool) (why : Cause) → end_by b ≡ Some why → b ≡ true
 ended true why h = refl
 ended false why h = cc
-
-ended_for : (b : Bool) (why : Cause) → end_by b ≡ Some why → why ≡ cause.Lcp
-ended_for true why h = ap (λ o. unwrap_or o cause.Lcp) (sym h)
-ended_for false why h = cc
 
 pub each_ends_by_lcp : EachEndsByLcp
 each_ends_by_lcp e c l why =

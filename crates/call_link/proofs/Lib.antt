@@ -1,4 +1,3 @@
-pub mod Calling
 pub mod Spelled
 pub mod Making
 pub mod Opening

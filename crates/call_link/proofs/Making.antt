@@ -7,7 +7,7 @@ use Rattle.call_link.specs.Link.{Link}
 use Rattle.call_link.specs.Frames.{is_for_link, lcp_frame}
 use Rattle.call_link.specs.Turns.{LinkCall, lcp_turn}
 use Rattle.call_link.specs.Laws.{IsMade, ByLcp, EachFrameIsMade, EachPacketIsGiven, EachFrameIsForLink}
-use Rattle.call_link.proofs.Calling.{by_called}
+use Rattle.call_link.specs.Calling.{by_called}
 use Rattle.call_link.proofs.Spelled.{IsSpelled, turn_spelled}
 
 -- a frame is that of a packet

@@ -1,30 +1,7 @@
 -- The network opens once.
-use Rattle.std.proofs.Common.{◌≡◌, ℕ, ◌+◌, Bool, true, false, not, ◌&&◌, ◌||◌, if◌then◌else◌, [], ◌∷◌, refl}
-use Rattle.call_link.specs.Turns.{lcp_turn}
-use Rattle.call_link.specs.Laws.{turn_at, openings, last, TellsOpening, EachTellsOpening, EachOpensOnce}
-use Rattle.call_link.proofs.Calling.{by_called}
-
--- frames of the network pass or don't, and LCP comes up or doesn't
-told_by : (was up : Bool) → (up && not was) ≡ (not was && (was || up))
-told_by true true = refl
-told_by true false = refl
-told_by false true = refl
-told_by false false = refl
-
-never : (was : Bool) → false ≡ (not was && was)
-never true = refl
-never false = refl
-
-stays_by : (was up : Bool) → was ≡ true → (was || up) ≡ true
-stays_by true up h = refl
-stays_by false up h = cc
-
-pub each_tells_opening : EachTellsOpening
-each_tells_opening e c l =
-    let up = (lcp_turn e c l.lcp).out.up in
-    by_called (λ t. TellsOpening l t) e c l
-    (λ h. record { told = told_by l.network up; stays = stays_by l.network up })
-    (λ h. record { told = never l.network; stays = λ w. w })
+use Rattle.std.proofs.Common.{◌≡◌, ℕ, ◌+◌, Bool, true, false, not, ◌&&◌, if◌then◌else◌, [], ◌∷◌, refl}
+use Rattle.call_link.specs.Laws.{turn_at, openings, last, EachOpensOnce}
+use Rattle.call_link.specs.Told.{each_tells_opening}
 
 -- what is told of a step and of the rest
 joined : (was is will told : Bool) (more : ℕ) → told ≡ (not was && is) → (was ≡ true → is ≡ true) → (is ≡ true → will ≡ true) →

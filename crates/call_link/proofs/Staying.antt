@@ -8,7 +8,7 @@ use Rattle.call_link.specs.Link.{Link, is_due}
 use Rattle.call_link.specs.Frames.{is_for_link}
 use Rattle.call_link.specs.Turns.{Ticks, Hears, turned, still, linked}
 use Rattle.call_link.specs.Laws.{EachStaysAsItWas}
-use Rattle.call_link.proofs.Calling.{by_called, not_over, or_false, and_false}
+use Rattle.call_link.specs.Calling.{by_called, not_over, or_false, and_false}
 
 foreign : (e : LinkEnv) (l : Link) (frame : List ℕ) → is_for_link frame ≡ false → linked e (Hears frame) l ≡ still l
 foreign e l frame h =

@@ -6,7 +6,7 @@ use Rattle.lcp_end.specs.Laws.{OpenLink, OnTick, OnPacket, TellsOpen, EachTellsO
 use Rattle.call_link.specs.declared.env.LinkEnv.{LinkEnv}
 use Rattle.call_link.specs.Turns.{LinkCall, Opens, Ticks, Hears, lcp_turn}
 use Rattle.call_link.specs.Laws.{TellsLcp, EachTellsLcp}
-use Rattle.call_link.proofs.Calling.{by_called, and_true}
+use Rattle.call_link.specs.Calling.{by_called, and_true}
 
 lcp_tells : EachTellsOpen → (e : LinkEnv) (c : LinkCall) (k : EndState) → TellsOpen k (lcp_turn e c k)
 lcp_tells each e Opens k = each (OpenLink e.moment) k

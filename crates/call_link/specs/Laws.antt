@@ -9,7 +9,7 @@ use Rattle.lcp_end.specs.Options.{not_zero}
 use Rattle.lcp_end.specs.Steps.{is_opened}
 use Rattle.call_link.specs.declared.env.LinkEnv.{LinkEnv}
 use Rattle.call_link.specs.declared.turn.LinkTurn.{LinkTurn}
-use Rattle.call_link.specs.Link.{Link, magic_of, new_link, is_due}
+use Rattle.call_link.specs.Link.{Link, magic_of, new_link, is_due, due_of, has_come}
 use Rattle.call_link.specs.Frames.{is_for_link, lcp_frame}
 use Rattle.call_link.specs.Turns.{LinkCall, Opens, Ticks, Hears, is_called, lcp_turn, still, linked}
 
@@ -120,6 +120,12 @@ pub record StaysAsItWas (e : LinkEnv) (l : Link) : Type 0 where
 
 abbrev pub EachStaysAsItWas : Type 0
 EachStaysAsItWas = (e : LinkEnv) (l : Link) → StaysAsItWas e l
+
+-- ---- its timer
+
+-- it has run out from the moment on that is told, and at no other
+abbrev pub EachTellsDue : Type 0
+EachTellsDue = (moment : ℕ) (l : Link) → is_due moment l ≡ has_come moment (due_of l)
 
 -- ---- how a link begins
 

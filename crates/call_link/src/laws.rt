@@ -1,6 +1,6 @@
 //! Laws of every call of a link, and of every run of its calls.
 
-ghost use Rattle.call_link.specs.Laws.{EachFrameIsMade, EachPacketIsGiven, EachFrameIsForLink, EachTellsOpening, EachOpensOnce, EachEndsForGood, EachEndsByLcp, EachEndIsTold, EachTellsLcp, EachStaysAsItWas, EachBeginsByAsking};
+ghost use Rattle.call_link.specs.Laws.{EachFrameIsMade, EachPacketIsGiven, EachFrameIsForLink, EachTellsOpening, EachOpensOnce, EachEndsForGood, EachEndsByLcp, EachEndIsTold, EachTellsLcp, EachStaysAsItWas, EachTellsDue, EachBeginsByAsking};
 
 use lcp_end::outputs_tell_open;
 
@@ -40,6 +40,11 @@ pub fn turns_tell_whether_lcp_is_open()
 /// Nothing comes of a frame of another protocol, nor of time before the timer runs out. The block counts for frames alone.
 pub fn other_calls_change_nothing()
     ensures { EachStaysAsItWas }
+{}
+
+/// The timer of a link has run out from the moment on that it tells, and where it tells none, never.
+pub fn timers_run_out_when_told()
+    ensures { EachTellsDue }
 {}
 
 /// A new link begins with a Configure-Request, whose magic number is the last four bytes of the step's block, or 1.

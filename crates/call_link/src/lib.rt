@@ -13,7 +13,8 @@ pub use env::LinkEnv;
 pub use frames::{Frames, is_for_link};
 pub use laws::{
     ended_links_stay_still, ends_are_of_lcp, frames_are_made, networks_open_once,
-    new_links_ask_first, other_calls_change_nothing, turns_tell_whether_lcp_is_open,
+    new_links_ask_first, other_calls_change_nothing, timers_run_out_when_told,
+    turns_tell_whether_lcp_is_open,
 };
 pub use link::Link;
 pub use turn::LinkTurn;

@@ -1,7 +1,7 @@
 //! The link of a call.
 
 ghost use Rattle.std.specs.Prelude.{◌≡◌, IfOk};
-ghost use Rattle.call_link.specs.Link.{magic_of, new_link, is_due};
+ghost use Rattle.call_link.specs.Link.{magic_of, new_link, is_due, due_of, in_64_bits};
 ghost use Rattle.call_link.specs.Turns.{Opens, Ticks, Hears, link_after, is_first_open, end_by, turned, still, linked};
 
 use crate::env::LinkEnv;
@@ -58,6 +58,17 @@ impl Link {
         ensures { result ≡ is_due moment self.now }
     {
         !self.over && self.lcp.is_due(moment)
+    }
+
+    /// The moment from which on its timer has run out, in milliseconds; None where nothing is waited for. The last moment of 64 bits
+    /// stands for all behind it.
+    pub fn due(&self) -> Option<u64>
+        ensures { result ≡ in_64_bits (due_of self.now) }
+    {
+        if self.over {
+            return None;
+        }
+        self.lcp.due()
     }
 
     /// The link as a step of its LCP end leaves it.

@@ -35,12 +35,12 @@ use Rattle.end_model.specs.Calls.{call_row, row_for, is_told, advanced, counted,
 use Rattle.end_model.specs.Tunnels.{Tunnel}
 use Rattle.end_model.specs.Channels.{has_room}
 use Rattle.end_model.specs.Messages.{request_of}
-use Rattle.end_model.specs.Links.{with_link, link_after}
+use Rattle.end_model.specs.Links.{with_link}
 use Rattle.end_model.specs.End.{End, new_place}
 use Rattle.world_model.specs.World.{Sender, Deed, config_of}
 use Rattle.step_laws.specs.Callers.{wanted_by_lac}
 use Rattle.step_laws.specs.Letters.{Letter, letters_of}
-use Rattle.lcp_end.specs.Laws.{after as lcp_after}
+use Rattle.call_link.specs.Laws.{turn_at}
 use Rattle.step_laws.specs.Codes.{codes_fit}
 use Rattle.step_laws.specs.Moves.{with_tunnel, with_letter_as}
 use Rattle.connection_laws.specs.Accounts.{Part, Unmade, Opener, Acceptor, Account, about, entered_by, gives, gives_also}
@@ -400,7 +400,7 @@ negotiated_keeps accs n e x sender moment ev m d h =
     let o = h.does in
     let t = o.tunnel in
     let live = h.within.end.live m.tunnel t o.there in
-    let call = with_link (link_after o.calls.link (lcp_after o.calls.by o.calls.link.lcp)) o.call in
+    let call = with_link (turn_at o.calls.by o.calls.link).link o.call in
     let u : Tunnel = record t { calls = put t.calls m.session call } in
     still accs n e x sender moment ev (move.Negotiated m) d h tt refl
     (subst (λ y. Within accs n y sender ev) (sym o.after)

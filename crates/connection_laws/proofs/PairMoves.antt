@@ -35,7 +35,7 @@ use Rattle.end_model.specs.Links.{with_link}
 use Rattle.end_model.specs.End.{End}
 use Rattle.world_model.specs.World.{Sender, Deed}
 use Rattle.step_laws.specs.Letters.{Letter}
-use Rattle.step_laws.specs.Links.{begun_link}
+use Rattle.call_link.specs.Link.{new_link}
 use Rattle.step_laws.specs.Moves.{HearsNext, heard_so, with_tunnel, with_letter_as}
 use Rattle.l2tp_header.specs.declared.header.Header.{Header}
 use Rattle.end_model.specs.Reading.{body_of}
@@ -258,7 +258,7 @@ module _ (codecs : Codecs) (classes : ClassIsTrue) (accs : Accounts) (n : ℕ) (
       let t = o.tunnel in
       let mv = move.SecondUp m in
       let live = h.within.end.live m.tunnel t o.there in
-      let call = with_link (begun_link o.magic) (with_numbers m.sequenced (advanced e.role call_event.IccnAcc moment o.call)) in
+      let call = with_link (new_link (record { moment = moment; block = o.block })) (with_numbers m.sequenced (advanced e.role call_event.IccnAcc moment o.call)) in
       let u = took t t.control.state (put t.calls m.session call) in
       said_takes codecs classes accs n e sender ev h.within m.tunnel t o.there m.session (Iccn o.speed o.framing m.sequenced)
       (record { letter = o.letter; next = o.takes.next; says = o.says })

@@ -11,15 +11,16 @@ use Rattle.send_window.specs.declared.window.Tick.{Tick as Due}
 use Rattle.send_window.specs.declared.window.Tick.TheVariants as tick
 use Rattle.send_window.specs.Window.{wait_after}
 use Rattle.control_channel.specs.Numbers.{answer_to_tick}
-use Rattle.lcp_end.specs.Steps.{is_timed, ticked}
+use Rattle.call_link.specs.Link.{Link}
+use Rattle.call_link.specs.Turns.{Ticks, linked}
 use Rattle.call_fsm.specs.declared.table.CallEvent.TheVariants.{Close}
 use Rattle.end_names.specs.declared.role.Role.{Role}
 use Rattle.end_model.specs.declared.event.Event.TheVariants.{Tick}
 use Rattle.end_model.specs.declared.tunnel.Call.{Call}
 use Rattle.end_model.specs.declared.tunnel.Control.{Control}
-use Rattle.end_model.specs.declared.tunnel.Link.{Link}
 use Rattle.end_model.specs.Moments.{patience, kept_closed, is_over, is_open, is_closed, is_being_set_up, is_at_its_end}
 use Rattle.end_model.specs.Calls.{row_for, is_up, is_set_up}
+use Rattle.end_model.specs.Links.{link_env}
 use Rattle.end_model.specs.Tunnels.{Drawing, Ground, Tunnel, Env, Turn, turn_of}
 use Rattle.end_model.specs.Events.{turns}
 use Rattle.end_model.specs.Sending.{settles}
@@ -31,7 +32,7 @@ use Rattle.end_model.specs.End.{End, env_of, Turned, tick_of, ticks_of, after_al
 use Rattle.tunnel_timers.specs.Due.{earliest, is_before, removal_due, repetition_due, hello_due, channel_due, setup_due, link_due, call_due, calls_due, due_of, tunnel_due, tunnels_due, end_due}
 use Rattle.due_laws.specs.Ticks.{count_done, CanEnd, CallsCanEnd}
 use Rattle.tunnel_timers.specs.Moments.{has_come, come_either}
-use Rattle.due_laws.proofs.Quiet.{and_on, some_wait}
+use Rattle.due_laws.proofs.Quiet.{link_tick, some_wait}
 use Rattle.due_laws.proofs.Growing.{Does, first_does, then_does, either, settles_does, repeats_does, greeted_does, greets_does, clears_does, row_does, up_does, limits_does, quietly_does}
 
 -- where a test holds, what stands there
@@ -64,11 +65,10 @@ module _ (role : Role) (letters : List Letter) where
   unfolding ticks_link
   link_acts s c None t come = absurd (true≢false come)
   link_acts s c (Some l) t come =
-      let test = has_come (nat_lt s 65536 && is_up c.state && is_timed l.lcp) 3000 l.lcp.since t.on.moment (omega arith) come in
-      let up = (and_parts _ _ (and_parts _ _ (and_parts _ _ test).0).0).1 in
-      when 1 _ t (links role letters s c l (ticked t.on.moment l.lcp) t) t
-      (and_on (nat_lt s 65536 && is_up c.state) (is_timed l.lcp) (nat_le 3000 (t.on.moment - l.lcp.since)) ∙ test)
-      (up_does role letters s c l (ticked t.on.moment l.lcp) t up)
+      let v = linked (link_env t.on) Ticks l in
+      let test = link_tick s c l t.on.moment ∙ ap (λ b. not b) come in
+      let up = (and_parts _ _ (and_parts _ _ test).0).1 in
+      when 1 _ t (links role letters s c v t) t test (up_does role letters s c v t up)
 
   setup_acts : (s : ℕ) (c : Call) (t : Turn) → CanEnd role c → is_before t.on.moment (setup_due s c) ≡ false → Does 1 t (limits_at role letters s (Some c) t)
   unfolding limits_at

@@ -13,25 +13,24 @@ use Rattle.call_fsm.specs.declared.table.CallState.TheVariants.{Idle, WaitTunnel
 use Rattle.call_fsm.specs.declared.table.CallEvent.TheVariants.{Close}
 use Rattle.call_fsm.specs.declared.table.CallAction.{CallAction}
 use Rattle.call_fsm.specs.declared.table.CallAction.TheVariants as call_action
-use Rattle.lcp_end.specs.Steps.{Turn as LcpTurn}
+use Rattle.call_link.specs.declared.turn.LinkTurn.{LinkTurn}
 use Rattle.end_names.specs.declared.role.Role.{Role}
 use Rattle.end_names.specs.declared.role.Role.TheVariants.{Lac, Lns}
 use Rattle.end_model.specs.declared.tunnel.Call.{Call}
 use Rattle.end_model.specs.declared.tunnel.Control.{Control}
-use Rattle.end_model.specs.declared.tunnel.Link.{Link}
+use Rattle.call_link.specs.Link.{Link}
 use Rattle.end_model.specs.declared.out.Out.{Out}
 use Rattle.end_model.specs.declared.out.Out.TheVariants.{Gone, Cause}
 use Rattle.end_model.specs.declared.moves.Move.{Move}
 use Rattle.session_looks.specs.declared.look.CellChange.{CellChange}
-use Rattle.end_model.specs.Calls.{counted, call_row, row_for, is_up, is_told, is_clean_up}
+use Rattle.end_model.specs.Calls.{counted, counted_all, call_row, row_for, is_up, is_told, is_clean_up}
 use Rattle.end_model.specs.Channels.{has_room}
-use Rattle.end_model.specs.Links.{lcp_frame}
 use Rattle.end_model.specs.Tunnels.{Drawing, Ground, Turn}
 use Rattle.end_model.specs.Turn.{with_output, with_move, with_change, with_call, with_looks_of, drops, ends_call, ends_all}
 use Rattle.end_model.specs.Sending.{gives, sends_letter, sends_now, lets_go, goes_by, lets_all_go, repeats, acknowledges, acknowledged_after, settles}
 use Rattle.end_model.specs.Closing.{end_silent, end_told, ends_by}
 use Rattle.end_model.specs.Frames.{sends_frame, counts, carried}
-use Rattle.end_model.specs.Linking.{sends_packets, negotiated, links, ticks_link}
+use Rattle.end_model.specs.Linking.{sends_frames, negotiated, ends_linked, links_by, links, ticks_link}
 use Rattle.end_model.specs.Ticking.{clears, greeted, greets, limits_at, limits_all, goes_quietly, ticks_by, ticks}
 use Rattle.due_laws.specs.Ticks.{count_done}
 
@@ -198,14 +197,14 @@ carried_does s frame c t =
     then_does 0 t _ _ (less_does t _ (move_does _ t))
     (then_does 0 _ _ _ (less_does _ _ (output_does _ _)) (counts_does s c c.sequence _))
 
-packets_does : (s : ℕ) (ps : List (List ℕ)) (c : Call) (t : Turn) → Does 0 t (sends_packets s ps c t)
-unfolding sends_packets
-packets_does s [] c t = same_does t
-packets_does s (p ∷ ps) c t = then_does 0 t _ _ (carried_does s (lcp_frame p) c t) (packets_does s ps (counted c) (carried s (lcp_frame p) c t))
+frames_does : (s : ℕ) (fs : List (List ℕ)) (c : Call) (t : Turn) → Does 0 t (sends_frames s fs c t)
+unfolding sends_frames
+frames_does s [] c t = same_does t
+frames_does s (f ∷ fs) c t = then_does 0 t _ _ (carried_does s f c t) (frames_does s fs (counted c) (carried s f c t))
 
-negotiated_does : (s : ℕ) (c : Call) (l : Link) (v : LcpTurn) (t : Turn) → Does 1 t (negotiated s c l v t)
+negotiated_does : (s : ℕ) (c : Call) (v : LinkTurn) (t : Turn) → Does 1 t (negotiated s c v t)
 unfolding negotiated
-negotiated_does s c l v t = then_does 1 t _ _ (packets_does s v.out.packets c t) (linked_does _ s _ _ _)
+negotiated_does s c v t = then_does 1 t _ _ (frames_does s v.frames c t) (linked_does _ s _ _ _)
 
 up_row : (role : Role) (s : CallState) → is_up s ≡ true → is_told (call_row role s Close).1 ≡ true
 unfolding call_row
@@ -217,20 +216,26 @@ up_row role WaitReply up = absurd (true≢false (sym up))
 up_row role WaitConnect up = absurd (true≢false (sym up))
 
 -- a call that is established is told to end, or its link goes on
-pub up_does : (role : Role) (letters : List Letter) (s : ℕ) (c : Call) (l : Link) (v : LcpTurn) (t : Turn) → is_up c.state ≡ true → Does 1 t (links role letters s c l v t)
-unfolding links
-up_does role letters s c l v t up =
+up_by : (role : Role) (letters : List Letter) (s : ℕ) (c : Call) (v : LinkTurn) (o : Option CauseOf) (t : Turn) → is_up c.state ≡ true
+    → Does 1 t (links_by role letters s c v o t)
+unfolding links_by ends_linked
+up_by role letters s c v None t up = negotiated_does s c v t
+up_by role letters s c v (Some for) t up =
     let ends = ap (λ b. b || is_clean_up (row_for role c Close).1) (up_row role c.state up) in
-    either 1 v.out.finished t _ _
-    (first_does 1 t _ _ (row_does cause.Lcp 3 None s c (row_for role c Close).1 t ends) (settles_does letters false _))
-    (negotiated_does s c l v t)
+    let u = sends_frames s v.frames c t in
+    then_does 1 t u _ (frames_does s v.frames c t)
+    (first_does 1 u _ _ (row_does for 3 None s (counted_all v.frames c) (row_for role c Close).1 u ends) (settles_does letters false _))
 
-links_does : (role : Role) (letters : List Letter) (s : ℕ) (c : Call) (l : Link) (v : LcpTurn) (t : Turn) → Does 0 t (links role letters s c l v t)
-unfolding links
-links_does role letters s c l v t =
-    either 0 v.out.finished t _ _
-    (then_does 0 t _ _ (any_row_does cause.Lcp 3 None s c (row_for role c Close).1 t) (settles_does letters false _))
-    (less_does t _ (negotiated_does s c l v t))
+pub up_does : (role : Role) (letters : List Letter) (s : ℕ) (c : Call) (v : LinkTurn) (t : Turn) → is_up c.state ≡ true → Does 1 t (links role letters s c v t)
+up_does role letters s c v t up = up_by role letters s c v v.ends t up
+
+links_does : (role : Role) (letters : List Letter) (s : ℕ) (c : Call) (v : LinkTurn) (o : Option CauseOf) (t : Turn) → Does 0 t (links_by role letters s c v o t)
+unfolding links_by ends_linked
+links_does role letters s c v None t = less_does t _ (negotiated_does s c v t)
+links_does role letters s c v (Some for) t =
+    let u = sends_frames s v.frames c t in
+    then_does 0 t u _ (frames_does s v.frames c t)
+    (then_does 0 u _ _ (any_row_does for 3 None s (counted_all v.frames c) (row_for role c Close).1 u) (settles_does letters false _))
 
 -- ---- all calls
 
@@ -238,7 +243,7 @@ module _ (role : Role) (letters : List Letter) where
   pub link_does : (s : ℕ) (c : Call) (o : Option Link) (t : Turn) → Does 0 t (ticks_link role letters s c o t)
   unfolding ticks_link
   link_does s c None t = same_does t
-  link_does s c (Some l) t = either 0 _ t _ t (links_does role letters s c l _ t) (same_does t)
+  link_does s c (Some l) t = either 0 _ t _ t (links_does role letters s c _ _ t) (same_does t)
 
   limit_does : (s : ℕ) (o : Option Call) (t : Turn) → Does 0 t (limits_at role letters s o t)
   unfolding limits_at

@@ -1,6 +1,7 @@
 -- Before a tunnel is due its tick leaves the turn as it is.
 use Rattle.std.proofs.Common.{◌≡◌, ℕ, ◌-◌, ◌<◌, Bool, true, false, List, [], ◌∷◌, Option, Some, None, refl, ap, ◌∙◌, arith}
 use Rattle.std.proofs.lemmas.Bool.{cond-false, or_from}
+use Rattle.std.proofs.lemmas.Bool.Decides.{nat_tests}
 use Rattle.std.specs.Prelude.{not, ◌&&◌, ◌==◌, nat_lt, nat_le, if◌then◌else◌}
 use Rattle.id_table.specs.Ids.{at, ids_of}
 use Rattle.wire_base.specs.declared.letter.Letter.{Letter}
@@ -8,13 +9,15 @@ use Rattle.send_window.specs.declared.window.Tick.{Tick as Due}
 use Rattle.send_window.specs.declared.window.Tick.TheVariants as tick
 use Rattle.send_window.specs.Window.{wait_after}
 use Rattle.control_channel.specs.Numbers.{Numbers, answer_to_tick}
-use Rattle.lcp_end.specs.Steps.{is_timed, ticked}
+use Rattle.call_link.specs.Link.{Link, is_due, due_of as link_due_of, has_come}
+use Rattle.call_link.specs.Turns.{Ticks, linked}
+use Rattle.call_link.specs.Told.{each_tells_due}
 use Rattle.end_names.specs.declared.role.Role.{Role}
 use Rattle.end_model.specs.declared.tunnel.Call.{Call}
 use Rattle.end_model.specs.declared.tunnel.Control.{Control}
-use Rattle.end_model.specs.declared.tunnel.Link.{Link}
 use Rattle.end_model.specs.Moments.{patience, kept_closed, is_open, is_closed, is_being_set_up, is_at_its_end}
 use Rattle.end_model.specs.Calls.{is_up, is_set_up}
+use Rattle.end_model.specs.Links.{link_env}
 use Rattle.end_model.specs.Tunnels.{Turn}
 use Rattle.end_model.specs.Linking.{links, ticks_link}
 use Rattle.end_model.specs.Ticking.{greets, limits_at, limits_all, goes_quietly, ticks_by, ticks}
@@ -22,10 +25,6 @@ use Rattle.tunnel_timers.specs.Due.{is_before, removal_due, repetition_due, hell
 use Rattle.tunnel_timers.specs.Moments.{waits_still, before_both, before_holds, found_holds}
 
 -- ---- tests
-
-pub and_on : (a b c : Bool) → (a && (b && c)) ≡ (a && b && c)
-and_on true b c = refl
-and_on false b c = refl
 
 by_repetitions : (a b c : Bool) → 0 < (if a then 1000 else if b then 2000 else if c then 4000 else 8000)
 by_repetitions true b c = omega arith
@@ -60,14 +59,24 @@ quiet_greeting letters t h =
 
 -- ---- its calls
 
+come_by : (m : ℕ) (o : Option ℕ) → has_come m o ≡ not (is_before m o)
+come_by m None = refl
+come_by m (Some due) = grind (arith, nat_tests)
+
+due_by : (waits due : Bool) (m : ℕ) (o : Option ℕ) → due ≡ has_come m o → (waits && due) ≡ not (is_before m (if waits then o else None))
+due_by true due m o is = is ∙ come_by m o
+due_by false due m o is = refl
+
+-- a link is looked at where its timer has run out
+pub link_tick : (s : ℕ) (c : Call) (l : Link) (m : ℕ) → (nat_lt s 65536 && is_up c.state && is_due m l) ≡ not (is_before m (link_due s c (Some l)))
+link_tick s c l m = due_by (nat_lt s 65536 && is_up c.state) (is_due m l) m (link_due_of l) (each_tells_due m l)
+
 module _ (role : Role) (letters : List Letter) (t : Turn) where
   quiet_link : (s : ℕ) (c : Call) (o : Option Link) → is_before t.on.moment (link_due s c o) ≡ true → ticks_link role letters s c o t ≡ t
   unfolding ticks_link
   quiet_link s c None h = refl
   quiet_link s c (Some l) h =
-      cond-false _ (links role letters s c l (ticked t.on.moment l.lcp) t) t
-      (and_on (nat_lt s 65536 && is_up c.state) (is_timed l.lcp) (nat_le 3000 (t.on.moment - l.lcp.since))
-      ∙ waits_still (nat_lt s 65536 && is_up c.state && is_timed l.lcp) 3000 l.lcp.since t.on.moment (omega arith) h)
+      cond-false _ (links role letters s c (linked (link_env t.on) Ticks l) t) t (link_tick s c l t.on.moment ∙ ap (λ b. not b) h)
 
   quiet_call : (s : ℕ) (o : Option Call) → ((c : Call) → o ≡ Some c → is_before t.on.moment (call_due s c) ≡ true) → limits_at role letters s o t ≡ t
   unfolding limits_at

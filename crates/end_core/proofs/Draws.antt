@@ -9,19 +9,18 @@ use Rattle.send_window.specs.declared.window.Tick.{Tick as Due}
 use Rattle.send_window.specs.declared.window.Tick.TheVariants as tick
 use Rattle.call_fsm.specs.declared.table.CallAction.{CallAction}
 use Rattle.call_fsm.specs.declared.table.CallAction.TheVariants as call_action
-use Rattle.lcp_end.specs.Steps.{Turn as LcpTurn}
+use Rattle.call_link.specs.declared.turn.LinkTurn.{LinkTurn}
 use Rattle.end_model.specs.declared.tunnel.Call.{Call}
-use Rattle.end_model.specs.declared.tunnel.Link.{Link}
+use Rattle.call_link.specs.Link.{Link}
 use Rattle.end_names.specs.declared.role.Role.{Role}
-use Rattle.end_model.specs.Calls.{counted}
-use Rattle.end_model.specs.Links.{lcp_frame}
+use Rattle.end_model.specs.Calls.{counted, counted_all}
 use Rattle.end_model.specs.Tunnels.{Drawing, Turn}
 use Rattle.end_model.specs.Turn.{with_output, with_move, with_change, drops, ends_call, ends_all, with_looks_of, with_call}
 use Rattle.end_model.specs.Ticking.{clears, greeted, greets, limits_at, limits_all, goes_quietly, ticks_by, ticks}
 use Rattle.end_model.specs.Sending.{gives, sends_letter, sends_now, lets_go, goes_by, lets_all_go, repeats, acknowledges, acknowledged_after, settles}
 use Rattle.end_model.specs.Closing.{end_silent, end_told, ends_by}
 use Rattle.end_model.specs.Frames.{sends_frame, counts, carried}
-use Rattle.end_model.specs.Linking.{sends_packets, negotiated, links, ticks_link}
+use Rattle.end_model.specs.Linking.{sends_frames, negotiated, ends_linked, links_by, ticks_link}
 
 -- what a turn drew
 abbrev pub drawn : Turn → List ℕ × Drawing
@@ -47,14 +46,14 @@ carried_drawn : (s : ℕ) (frame : List ℕ) (c : Call) (t : Turn) → drawn (ca
 unfolding carried sends_frame with_output with_move
 carried_drawn s frame c t = counts_drawn s c c.sequence (sends_frame s frame c t)
 
-packets_drawn : (s : ℕ) (ps : List (List ℕ)) (c : Call) (t : Turn) → drawn (sends_packets s ps c t) ≡ drawn t
-unfolding sends_packets
-packets_drawn s [] c t = refl
-packets_drawn s (p ∷ ps) c t = packets_drawn s ps (counted c) (carried s (lcp_frame p) c t) ∙ carried_drawn s (lcp_frame p) c t
+frames_drawn : (s : ℕ) (fs : List (List ℕ)) (c : Call) (t : Turn) → drawn (sends_frames s fs c t) ≡ drawn t
+unfolding sends_frames
+frames_drawn s [] c t = refl
+frames_drawn s (f ∷ fs) c t = frames_drawn s fs (counted c) (carried s f c t) ∙ carried_drawn s f c t
 
-negotiated_drawn : (s : ℕ) (c : Call) (l : Link) (v : LcpTurn) (t : Turn) → drawn (negotiated s c l v t) ≡ drawn t
+negotiated_drawn : (s : ℕ) (c : Call) (v : LinkTurn) (t : Turn) → drawn (negotiated s c v t) ≡ drawn t
 unfolding negotiated with_looks_of with_move with_call
-negotiated_drawn s c l v t = packets_drawn s v.out.packets c t
+negotiated_drawn s c v t = frames_drawn s v.frames c t
 
 module _ (letters : List Letter) where
   letter_drawn : (number : ℕ) (o : Option Letter) (t : Turn) → drawn (sends_letter number o t) ≡ drawn t
@@ -92,15 +91,16 @@ module _ (letters : List Letter) where
   unfolding greets greeted gives with_move
   greets_drawn t = either _ _ _ t (settles_drawn false _) refl
 
-  links_drawn : (role : Role) (s : ℕ) (c : Call) (l : Link) (v : LcpTurn) (t : Turn) → drawn (links role letters s c l v t) ≡ drawn t
-  unfolding links
-  links_drawn role s c l v t =
-      either v.out.finished _ _ t (settles_drawn false _ ∙ ended_drawn cause.Lcp 3 None s c _ t) (negotiated_drawn s c l v t)
+  links_drawn : (role : Role) (s : ℕ) (c : Call) (v : LinkTurn) (o : Option CauseOf) (t : Turn) → drawn (links_by role letters s c v o t) ≡ drawn t
+  unfolding links_by ends_linked
+  links_drawn role s c v None t = negotiated_drawn s c v t
+  links_drawn role s c v (Some for) t =
+      settles_drawn false _ ∙ (ended_drawn for 3 None s (counted_all v.frames c) _ (sends_frames s v.frames c t) ∙ frames_drawn s v.frames c t)
 
   link_drawn : (role : Role) (s : ℕ) (c : Call) (o : Option Link) (t : Turn) → drawn (ticks_link role letters s c o t) ≡ drawn t
   unfolding ticks_link
   link_drawn role s c None t = refl
-  link_drawn role s c (Some l) t = either _ _ _ t (links_drawn role s c l _ t) refl
+  link_drawn role s c (Some l) t = either _ _ _ t (links_drawn role s c _ _ t) refl
 
   limit_drawn : (role : Role) (s : ℕ) (o : Option Call) (t : Turn) → drawn (limits_at role letters s o t) ≡ drawn t
   unfolding limits_at

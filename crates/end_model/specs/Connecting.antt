@@ -2,11 +2,11 @@
 use Rattle.std.specs.Prelude.{ℕ, List, Bool, if◌then◌else◌, Option, Some, None}
 use Rattle.id_table.specs.Ids.{at}
 use Rattle.wire_base.specs.declared.why.Why.TheVariants as why
-use Rattle.lcp_end.specs.Steps.{opened as link_opened}
+use Rattle.call_link.specs.Link.{Link, new_link}
+use Rattle.call_link.specs.Turns.{Opens, linked}
 use Rattle.call_fsm.specs.declared.table.CallEvent.TheVariants as call_event
 use Rattle.end_model.specs.declared.tunnel.Call.{Call}
 use Rattle.session_looks.specs.declared.look.CellChange.TheVariants as cell
-use Rattle.end_model.specs.declared.tunnel.Link.{Link}
 use Rattle.end_names.specs.declared.role.Role.{Role}
 use Rattle.end_model.specs.declared.moves.Move.TheVariants as move
 use Rattle.end_model.specs.Tunnels.{Turn}
@@ -14,7 +14,7 @@ use Rattle.end_model.specs.Channels.{next_place, taken_place, has_room}
 use Rattle.end_model.specs.Messages.{connection}
 use Rattle.end_model.specs.Reasons.{out_of_state}
 use Rattle.end_model.specs.Calls.{row_for, row_of_none, advanced, with_numbers, is_connection, is_up, is_clean_up}
-use Rattle.end_model.specs.Links.{new_link, with_link}
+use Rattle.end_model.specs.Links.{link_env, with_link}
 use Rattle.end_model.specs.Turn.{with_move, with_change, with_call, drops, ends_call}
 use Rattle.end_model.specs.Sending.{gives, takes_one, takes_plain}
 use Rattle.end_model.specs.Refusing.{answers_by, of_no_call}
@@ -44,14 +44,14 @@ second_up sequenced s c t =
     (with_call s c
     (takes_one t)))
 
--- whose LCP is opened
+-- which is opened
 unfoldable pub connects_call : Bool → ℕ → Call → Link → Turn → Turn
-connects_call sequenced s c l t = negotiated s c l (link_opened t.on.moment l.lcp) (second_up sequenced s c t)
+connects_call sequenced s c l t = negotiated s c (linked (link_env t.on) Opens l) (second_up sequenced s c t)
 
 unfoldable pub linked_up : Role → Bool → ℕ → Call → Turn → Turn
 linked_up role sequenced s c t =
-    connects_call sequenced s (with_link (new_link t.on.block) (with_numbers sequenced (advanced role call_event.IccnAcc t.on.moment c)))
-    (new_link t.on.block) t
+    connects_call sequenced s (with_link (new_link (link_env t.on)) (with_numbers sequenced (advanced role call_event.IccnAcc t.on.moment c)))
+    (new_link (link_env t.on)) t
 
 unfoldable pub second_up_by : Role → Bool → ℕ → Option Call → Turn → Turn
 second_up_by role sequenced s None t = of_no_call out_of_state 0 (row_of_none role call_event.IccnAcc).1 t

@@ -1,7 +1,6 @@
 pub mod Reading
 pub mod Secrets
 pub mod Calls
-pub mod Links
 pub mod Owing
 pub mod Codes
 pub mod Reasons
@@ -9,6 +8,7 @@ pub mod Messages
 pub mod Moments
 pub mod Channels
 pub mod Tunnels
+pub mod Links
 pub mod Turn
 pub mod Sending
 pub mod Openings

@@ -1,36 +1,20 @@
--- What the PPP link of an LNS's call keeps (RFC 1661).
-use Rattle.std.specs.Prelude.{ℕ, Bool, true, false, not, ◌&&◌, ◌||◌, List, [], ◌∷◌, drop, Option, Some, None}
-use Rattle.byteorder.specs.Endian.{big_number}
-use Rattle.lcp_end.specs.declared.out.LcpOut.{LcpOut}
-use Rattle.lcp_end.specs.Steps.{Turn as LcpTurn, fresh}
-use Rattle.end_model.specs.declared.tunnel.Call.{Call}
+-- The PPP link of an LNS's call (RFC 1661), as the call has it.
+use Rattle.std.specs.Prelude.{ℕ, Bool, true, false, List, [], ◌∷◌, Option, Some, None}
+use Rattle.call_link.specs.declared.env.LinkEnv.{LinkEnv}
+use Rattle.call_link.specs.Link.{Link}
 use Rattle.session_looks.specs.declared.look.CellChange.{CellChange}
 use Rattle.session_looks.specs.declared.look.CellChange.TheVariants.{Establish}
-use Rattle.end_model.specs.declared.tunnel.Link.{Link}
+use Rattle.end_model.specs.declared.tunnel.Call.{Call}
+use Rattle.end_model.specs.Tunnels.{Ground}
 
--- an LCP packet as a PPP frame, from its protocol field on
-abbrev pub lcp_frame : List ℕ → List ℕ
-lcp_frame packet = 192 ∷ 33 ∷ packet
-
--- the magic number that its LCP end asks for is the last four bytes of the step's block
-abbrev pub magic_of : List ℕ → ℕ
-magic_of block = big_number 4 (drop 12 block)
-
--- the link of a call that was connected, before LCP is opened
-abbrev pub new_link : List ℕ → Link
-new_link block = record { lcp = fresh (magic_of block); network = false }
+-- a link is called at the moment and with the random block of the step
+abbrev pub link_env : Ground → LinkEnv
+link_env g = record { moment = g.moment; block = g.block }
 
 abbrev pub with_link : Link → Call → Call
 with_link l c = record c { link = Some l }
 
--- once LCP was open, frames of the network pass as long as the call lives
-abbrev pub link_after : Link → LcpTurn → Link
-link_after l v = record { lcp = v.kept; network = l.network || v.out.up }
-
--- LCP is open for the first time in the call
-abbrev pub is_first_open : Link → LcpOut → Bool
-is_first_open l out = out.up && not l.network
-
+-- frames of the network pass from now on
 abbrev pub looks_of : Bool → ℕ → List CellChange
 looks_of true s = Establish s ∷ []
 looks_of false s = []

@@ -18,4 +18,4 @@ pub use moves::{
     Opened, Place, Refused, Rejected, Repeated, Replied, Requested, SecondUp, TookPlain,
 };
 pub use out::{ControlOrigin, Origin, Out};
-pub use tunnel::{Call, CallPlace, CallStep, CallSteps, Config, Control, Link};
+pub use tunnel::{Call, CallPlace, CallStep, CallSteps, Config, Control};

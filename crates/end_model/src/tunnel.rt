@@ -1,8 +1,8 @@
 //! What an end is, and what it knows of a call.
 
 use call_fsm::{CallEvent, CallState};
+use call_link::Link;
 use control_channel::ChannelNumbers;
-use lcp_end::LcpEnd;
 use session_looks::Look;
 use tunnel_fsm::TunnelState;
 use wire_base::{Bytes, Sequence};
@@ -58,14 +58,6 @@ pub struct CallStep {
 
 /// The rows that a call went through, in order.
 pub type CallSteps = Sequence<CallStep>;
-
-/// The PPP link of an LNS's call, which ends there (RFC 1661).
-#[derive(Clone, Copy)]
-pub struct Link {
-    pub lcp: LcpEnd,
-    /// Whether LCP was opened in the call before: frames of the network pass.
-    pub network: bool,
-}
 
 /// A call of an end (RFC 2661 section 1.2).
 #[derive(Drop)]

@@ -99,7 +99,7 @@ module _ (digits : (who : List ℕ) → length (calling_number who) ≡ 12) (n :
     pub does : SendsFrame end moment ev f next
     pub mates : Mates ns n f.session (node_of f.peer) f.remote
     pub fits : f.remote < 65536
-    -- a LAC's call has no LCP end
+    -- a LAC's call has no link
     pub link : end.role ≡ Lac → does.call.link ≡ None
 
   sent_first : (v : World) (x y : End) → At n z v x → (ns : Nodes) → Grows v.nodes ns → (f : FrameSent) (ms : List Move) → SendsFrame x moment ev f y

@@ -36,7 +36,7 @@ use Rattle.end_model.specs.Access.{Access}
 use Rattle.world_model.specs.Texts.{Entry, Drops, Frames}
 use Rattle.step_laws.specs.Hosts.{LacAt, with_host, entering, reply_to, HostDoes, HostSends, HostLeaves, OfFrame, frame_line}
 use Rattle.frame_laws.proofs.Ups.{ups_in-append}
-use Rattle.frame_laws.proofs.Worlds.{Below, LineGives, ByLine, ByHost, ByLcp, WhyGiven, ByEvent, ByLcpEnd, StepGives, Counts, Goes, IsReal, StepOk, step_ok}
+use Rattle.frame_laws.proofs.Worlds.{Below, LineGives, ByLine, ByHost, ByLink, WhyGiven, ByEvent, ByLinkIn, StepGives, Counts, Goes, IsReal, StepOk, step_ok}
 
 -- ---- lines
 
@@ -198,13 +198,13 @@ module _ (w : World) (number n : ℕ) (l : Line) (ev : Event) (sender : Option S
   no_lns : node.end.role ≡ role.Lac → IfLns w number l n ev sender node
   no_lns lac lns = absurd (not_lns node.end.role lac lns)
 
-  -- what the LCP end of a call gave
-  by_lcp : IfLns w number l n ev sender node → (g : Passage) → NodeGives number n node ev g → node.end.role ≡ role.Lns
+  -- what the link of a call gave
+  by_link : IfLns w number l n ev sender node → (g : Passage) → NodeGives number n node ev g → node.end.role ≡ role.Lns
       → GivesInStep node.end node.clock (block_of n number) (uncovered_event node.end.config.secret ev) g → LineGives number w l g
-  by_lcp if_lns g h lns gives =
+  by_link if_lns g h lns gives =
       let s = if_lns lns in
       let block_is : block_of n number ≡ block_of g.node g.line = rw (h.number_is, h.node_is) refl in
-      ByLcp h.number_is (h.role_is ∙ lns) (record {
+      ByLink h.number_is (h.role_is ∙ lns) (record {
         before = s.0.before;
         there = rw h.node_is s.0.there;
         node = node;
@@ -237,7 +237,7 @@ module _ (w : World) (number n : ℕ) (l : Line) (ev : Event) (sender : Option S
       by (event.CloseTunnel i) none h = ⊎_elim (λ e. absurd cc) (λ e. absurd cc) h
       by event.Tick none h = ⊎_elim (λ e. absurd cc) (λ e. absurd cc) h
 
-  -- the line gives what the event gave, and what an LCP end gave
+  -- the line gives what the event gave, and what a link gave
   each_gives : IfLns w number l n ev sender node → (g : Passage) → NodeGives number n node ev g
       → ((uncovered_event node.end.config.secret ev ≡ event.Payload g.session g.frame)
       ⊎ (uncovered_event node.end.config.secret ev ≡ event.Lower g.session g.frame) → LineGives number w l g) → LineGives number w l g
@@ -245,7 +245,7 @@ module _ (w : World) (number n : ℕ) (l : Line) (ev : Event) (sender : Option S
     where
       by : WhyGiven node.end node.clock (block_of n number) (uncovered_event node.end.config.secret ev) g → LineGives number w l g
       by (ByEvent e) = given e
-      by (ByLcpEnd lns gives) = by_lcp if_lns g h lns gives
+      by (ByLinkIn lns gives) = by_link if_lns g h lns gives
 
   no_frame : HasNoFrame ev → IfLns w number l n ev sender node → (g : Passage) → NodeGives number n node ev g → LineGives number w l g
   no_frame none if_lns g h = each_gives if_lns g h (λ e. absurd (none_given none g.session g.frame e))

@@ -53,13 +53,13 @@ use Rattle.end_model.specs.Calls.{advanced, with_numbers, counted, rung, asked_f
 use Rattle.end_model.specs.Tunnels.{Tunnel}
 use Rattle.end_model.specs.Channels.{letter_of, letter_as, counts_given, counts_taken, learns_window}
 use Rattle.end_model.specs.Messages.{flags_of, opening_of, request_of, connection}
-use Rattle.end_model.specs.Links.{with_link, link_after}
+use Rattle.end_model.specs.Links.{with_link}
 use Rattle.end_model.specs.End.{End, new_place}
 use Rattle.world_model.specs.World.{World, Node, with_birth, is_born, birth_of, moved}
 use Rattle.step_laws.specs.Callers.{wanted_by_lac}
 use Rattle.step_laws.specs.Moves.{heard_from, Rejects, Asks, Responds, with_tunnel, with_letter, new_tunnel, begun, Opens, Accepts, Connects, Confirms, Adds as AddsCall, Requests, Replies, ComesUpFirst, ComesUpSecond, Refuses, TellsEnd, HearsEnd, EndsSilently, Closes, ClosesBy, Clears, Greets, TakesPlain, Reads, LetsGo, Repeats, Negotiates, Counts, without_call, without_calls, Does}
-use Rattle.step_laws.specs.Links.{begun_link}
-use Rattle.lcp_end.specs.Laws.{after as lcp_after}
+use Rattle.call_link.specs.Link.{new_link}
+use Rattle.call_link.specs.Laws.{turn_at}
 use Rattle.frame_laws.specs.Plain.{HidesOk, number_hides}
 use Rattle.frame_laws.specs.Written.{IsWritten, IsWrittenOpening}
 use Rattle.frame_laws.proofs.Facts.{Nodes, Born, Plays, Grows, same_nodes, Mates, swapped, NamesItsCall, KnowsItsMate, CallOk, call_later, CallsOk, LetterOk, LettersOk, letters_later, TunnelOk, tunnel_later, all_push, all_drop}
@@ -121,7 +121,7 @@ rung_remote : (r : Role) (who : List ℕ) (moment : ℕ) → (rung r who moment)
 unfolding rung advanced
 rung_remote r who moment = refl
 
--- a call that is made has no LCP end yet
+-- a call that is made has no link yet
 asked_link : (r : Role) (remote moment : ℕ) → (asked_for r remote moment).link ≡ None
 unfolding asked_for advanced
 asked_link r remote moment = refl
@@ -437,19 +437,19 @@ module _ (digits : (who : List ℕ) → length (calling_number who) ≡ 12) (n :
       let t = here.end.tunnels m.tunnel h.tunnel h.there in
       let o = t.calls m.session h.call h.made in
       let lns = second_row x.role h.call.state h.row in
-      let call = with_link (begun_link h.magic) (with_numbers m.sequenced (advanced x.role call_event.IccnAcc moment h.call)) in
+      let call = with_link (new_link (record { moment = moment; block = h.block })) (with_numbers m.sequenced (advanced x.role call_event.IccnAcc moment h.call)) in
       rw h.after
       (call_led _ m.tunnel h.tunnel (counts_taken h.tunnel.control) h.tunnel.letters m.session call h.there
       (sets_tunnel _ m.tunnel _)
       refl refl refl refl t.letters
       (goes_on h.tunnel.control.peer m.session h.call call o refl (λ k. o.mate (inl lns)) (λ lac. absurd (not_lns x.role lac lns))))
 
-  -- the LCP end of a call goes on; so the end is no LAC
+  -- the link of a call goes on; so the end is no LAC
   negotiated_led : (moment : ℕ) (m : Negotiated) (y : End) → Negotiates x moment ev m y → Led v y
   negotiated_led moment m y h =
       let t = here.end.tunnels m.tunnel h.tunnel h.there in
       let o = t.calls m.session h.call h.live in
-      let call = with_link (link_after h.calls.link (lcp_after h.calls.by h.calls.link.lcp)) h.call in
+      let call = with_link (turn_at h.calls.by h.calls.link).link h.call in
       rw h.after
       (call_led _ m.tunnel h.tunnel h.tunnel.control h.tunnel.letters m.session call h.there
       (sets_tunnel _ m.tunnel _)

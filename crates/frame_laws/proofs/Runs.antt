@@ -15,14 +15,14 @@ use Rattle.frame_laws.specs.Codecs.{Codecs}
 use Rattle.frame_laws.specs.Births.{BirthsOfRuns}
 use Rattle.frame_laws.specs.Past.{Passage, sent_by, handed_by, sent_in, handed_in}
 use Rattle.std.proofs.lemmas.List.{append-nil, length-append}
-use Rattle.frame_laws.specs.Frames.{WasSent, IsCarried, IsGiven, ByItsLine, ByItsHost, ByItsLcp, GivesByFrame, GivesByLcp, FramesOfRuns, PacketsOfRuns, GivenInRuns}
+use Rattle.frame_laws.specs.Frames.{WasSent, IsCarried, IsGiven, ByItsLine, ByItsHost, ByItsLink, GivesByFrame, GivesByLink, FramesOfRuns, PacketsOfRuns, GivenInRuns}
 use Rattle.frame_laws.specs.Reports.{ups_in, told_of, ReportsOfRuns}
 use Rattle.frame_laws.proofs.Ups.{ups_in-append, told_of-append}
 use Rattle.frame_laws.proofs.Facts.{StepLaws, LooksOfRuns, FactsOfRuns, Born, birth_in_node, Holds, among_left, all_map}
 use Rattle.frame_laws.proofs.Births.{Counted}
 use Rattle.frame_laws.proofs.Changes.{born_at, plays_at}
 use Rattle.frame_laws.proofs.Deeds.{all_append}
-use Rattle.frame_laws.proofs.Worlds.{Below, LineGives, ByLine, ByHost, ByLcp, Goes, carried_later}
+use Rattle.frame_laws.proofs.Worlds.{Below, LineGives, ByLine, ByHost, ByLink, Goes, carried_later}
 use Rattle.frame_laws.proofs.Lines.{LineOk, line_ok}
 
 -- a run goes on where a line fits, and stays where it doesn't
@@ -146,9 +146,9 @@ module _ (codecs : Codecs) (laws : StepLaws) where
       let same : run_from 1 before empty_run ≡ r = sym (ap (λ ls. run_from 1 ls empty_run) (append-nil before)) ∙ run_is in
       ByItsHost before ls bytes (subst (λ k. all ≡ before ++ k ∷ ls) line_is parts) (number_is ∙ counted) lac
       (subst (λ (q : Run). GivesByFrame q.world g bytes) (sym same) gives)
-  one_given all number l ls r some at_line before parts counted run_is g (ByLcp number_is lns gives) =
+  one_given all number l ls r some at_line before parts counted run_is g (ByLink number_is lns gives) =
       let same : run_from 1 before empty_run ≡ r = sym (ap (λ ls. run_from 1 ls empty_run) (append-nil before)) ∙ run_is in
-      ByItsLcp before ls l parts (number_is ∙ counted) lns (subst (λ (q : Run). GivesByLcp q.world l g) (sym same) gives)
+      ByItsLink before ls l parts (number_is ∙ counted) lns (subst (λ (q : Run). GivesByLink q.world l g) (sym same) gives)
 
   -- each frame that was sent is given by its line
   given_from : (all : List Line) (number : ℕ) (lines : List Line) (r : Run) → AreLines lines → AreCalm lines → RunOk number r → 0 < number → StandsAt all number lines

@@ -30,12 +30,12 @@ use Rattle.end_model.specs.Tunnels.{Tunnel}
 use Rattle.end_model.specs.End.{plain_step, End, Stepped}
 use Rattle.world_model.specs.World.{World, Node, Checkpoint, Sender, Deed, Lined, with_node, moved_all, sent, shown, shown_all, given, after_step}
 use Rattle.step_laws.specs.Letters.{Among, Carries, ALetter, Nothing, AFrame, HasOutput}
-use Rattle.step_laws.specs.Links.{WhySent, IsGiven, IsOfLcp}
+use Rattle.step_laws.specs.Links.{WhySent, IsGiven, IsOfLink}
 use Rattle.step_laws.specs.Steps.{InChain, IsOfMoves, IsDecline, IsChain}
 use Rattle.step_laws.specs.Codes.{decline_codes_fit}
 use Rattle.frame_laws.specs.Codecs.{Codecs}
 use Rattle.frame_laws.specs.Past.{Passage, sent_in, handed_in}
-use Rattle.frame_laws.specs.Frames.{WasSent, IsCarried, other_end, gives_frame, GivesByFrame, GivesInStep, GivesByLcp}
+use Rattle.frame_laws.specs.Frames.{WasSent, IsCarried, other_end, gives_frame, GivesByFrame, GivesInStep, GivesByLink}
 use Rattle.frame_laws.proofs.Facts.{StepLaws, Nodes, Plays, Grows, Mates, WasSentInCall, ReadOk, BytesOk, PacketOk, LetterOk, EndOk, NodeOk, Holds, among_left, among_right, packets_later, node_later, end_later, all_map, all_push, all_at, grows_on}
 use Rattle.frame_laws.proofs.Changes.{birth_is, role_there, Changed, grows, NoBirth}
 use Rattle.frame_laws.proofs.Births.{is_lns, Counted, counted_after}
@@ -177,12 +177,12 @@ Below number gs = AllByRecursion (λ g. g.line < number) gs
 pub data LineGives (number : ℕ) (w : World) (l : Line) (g : Passage) : Type 0 where
   ByLine : g.line ≡ number → l ≡ gives_frame g.role g.node g.session g.frame → LineGives number w l g
   ByHost : g.line ≡ number → g.role ≡ Lac → (bytes : List ℕ) → l ≡ line_of.Frame g.node bytes → GivesByFrame w g bytes → LineGives number w l g
-  ByLcp : g.line ≡ number → g.role ≡ Lns → GivesByLcp w l g → LineGives number w l g
+  ByLink : g.line ≡ number → g.role ≡ Lns → GivesByLink w l g → LineGives number w l g
 
--- an event gave the frame to its end, or the LCP end of the call did in the step of an LNS
+-- an event gave the frame to its end, or the link of the call did in the step of an LNS
 pub data WhyGiven (e : End) (moment : ℕ) (block : List ℕ) (ev : Event) (g : Passage) : Type 0 where
   ByEvent : (ev ≡ Payload g.session g.frame) ⊎ (ev ≡ Lower g.session g.frame) → WhyGiven e moment block ev g
-  ByLcpEnd : e.role ≡ Lns → GivesInStep e moment block ev g → WhyGiven e moment block ev g
+  ByLinkIn : e.role ≡ Lns → GivesInStep e moment block ev g → WhyGiven e moment block ev g
 
 pub record StepGives (number n : ℕ) (e : End) (moment : ℕ) (block : List ℕ) (ev : Event) (g : Passage) : Type 0 where
   pub number_is : g.line ≡ number
@@ -501,7 +501,7 @@ module _ (codecs : Codecs) (laws : StepLaws) (number : ℕ) (w : World) (gs : Li
           → WhySent ev moment k.does.tunnel.control f.session k.does.call f.frame
           → WhyGiven old.end moment block ev (sends v number n old.end.role sender f)
       by k (IsGiven is passes) = ByEvent is
-      by k (IsOfLcp gives) = ByLcpEnd
+      by k (IsOfLink gives) = ByLinkIn
           (is_lns old.end.role (λ lac. none-some gives.calls.link (sym (k.link (same_role moment ev old.end k.end k.first k.leads ∙ lac)) ∙ gives.calls.has)))
           (record {
             first = k.first;

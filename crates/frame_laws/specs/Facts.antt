@@ -142,7 +142,7 @@ pub record CallOk (ns : Nodes) (n : ℕ) (role : Role) (bound peer s : ℕ) (c :
   pub remote : c.remote < 65536
   pub known : (c.remote ≡ 0) ⊎ Mates ns n s (node_of peer) c.remote
   pub mate : KnowsItsMate role c → Mates ns n s (node_of peer) c.remote
-  -- a LAC's call has no LCP end
+  -- a LAC's call has no link
   pub link : role ≡ Lac → c.link ≡ None
 
 abbrev pub CallsOk : Nodes → ℕ → Role → ℕ → ℕ → List (ℕ × Call) → Type 0

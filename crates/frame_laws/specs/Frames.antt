@@ -90,8 +90,8 @@ pub record GivesByFrame (w : World) (g : Passage) (bytes : List ℕ) : Type 0 wh
   pub of_host : IsOfHost access node.end src g.session
   pub frame : g.frame ≡ take (stop - start) (drop start bytes)
 
--- in the step of an end on an event, as it reads it, the frame is an LCP packet that the LCP end of its call gives: the first moves of the
--- step lead to an end in which the call has an LCP end that, as it is called then, gives the packet, and the next move sends it
+-- in the step of an end on an event, as it reads it, the frame is one that the link of its call gives: the first moves of the
+-- step lead to an end in which the call has a link that, as it is called then, gives the frame, and the next move sends it
 pub record GivesInStep (e : End) (moment : ℕ) (block : List ℕ) (ev : Event) (g : Passage) : Type 0 where
   pub first : List Move
   pub end : End
@@ -116,7 +116,7 @@ pub record GivesInStep (e : End) (moment : ℕ) (block : List ℕ) (ev : Event) 
   }) ∷ rest
 
 -- so it is in the step that the passage's node makes of a line
-pub record GivesByLcp (w : World) (l : Line) (g : Passage) : Type 0 where
+pub record GivesByLink (w : World) (l : Line) (g : Passage) : Type 0 where
   -- the node in the world, and as the line has it: its clock may have gone on
   pub before : Node
   pub there : at w.nodes g.node ≡ Some before
@@ -129,14 +129,14 @@ pub record GivesByLcp (w : World) (l : Line) (g : Passage) : Type 0 where
   pub in_step : GivesInStep node.end node.clock (block_of g.node g.line) (uncovered_event node.end.config.secret event) g
 
 -- a frame that counts as sent is one that its line gave to its end in its call; or at a LAC one that the host of that call sent in an
--- Ethernet frame which its line brings; or at an LNS an LCP packet that the LCP end of that call gave on what its line brings, which no
+-- Ethernet frame which its line brings; or at an LNS one that the link of that call gave on what its line brings, which no
 -- line spells. The world is as it was before the line
 pub data IsGiven (lines : List Line) (g : Passage) : Type 0 where
   ByItsLine : slice_get lines (g.line - 1) ≡ Some (gives_frame g.role g.node g.session g.frame) → IsGiven lines g
   ByItsHost : (before after : List Line) (bytes : List ℕ) → lines ≡ before ++ Frame g.node bytes ∷ after → g.line ≡ length before + 1 → g.role ≡ Lac
       → GivesByFrame (run before).world g bytes → IsGiven lines g
-  ByItsLcp : (before after : List Line) (l : Line) → lines ≡ before ++ l ∷ after → g.line ≡ length before + 1 → g.role ≡ Lns
-      → GivesByLcp (run before).world l g → IsGiven lines g
+  ByItsLink : (before after : List Line) (l : Line) → lines ≡ before ++ l ∷ after → g.line ≡ length before + 1 → g.role ≡ Lns
+      → GivesByLink (run before).world l g → IsGiven lines g
 
 -- in the run of each list of lines of the grammar, where no node crashes, is to stop, or starts, and whether each line fits or one ends the run
 abbrev pub FramesOfRuns : Type 0

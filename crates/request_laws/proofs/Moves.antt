@@ -26,10 +26,10 @@ use Rattle.end_model.specs.declared.moves.Move.TheVariants as move
 use Rattle.end_model.specs.declared.tunnel.Call.{Call}
 use Rattle.end_model.specs.Calls.{advanced, with_numbers, counted, rung, asked_for}
 use Rattle.end_model.specs.Tunnels.{Tunnel}
-use Rattle.end_model.specs.Links.{with_link, link_after}
+use Rattle.end_model.specs.Links.{with_link}
 use Rattle.end_model.specs.End.{End}
-use Rattle.lcp_end.specs.Laws.{after as lcp_after}
-use Rattle.step_laws.specs.Links.{begun_link}
+use Rattle.call_link.specs.Laws.{turn_at}
+use Rattle.call_link.specs.Link.{new_link}
 use Rattle.step_laws.specs.Moves.{with_tunnel, without_call, Opens, Accepts, Adds, Requests, Replies, ComesUpFirst, ComesUpSecond, Negotiates, Counts, Does}
 use Rattle.connection_laws.specs.Accounts.{about}
 use Rattle.request_laws.proofs.Rows.{Asks, up_row, asked_over, first_over, second_over}
@@ -173,14 +173,14 @@ module _ (x y : End) (o : Ordered x) where
   second_calls : (moment : ℕ) (ev : Event) (m : SecondUp) → ComesUpSecond x moment ev m y → CallsGo x y m.tunnel
   second_calls moment ev m h =
       rw h.after
-      (puts_changed x _ m.tunnel h.tunnel _ m.session h.call (with_link (begun_link h.magic) (with_numbers m.sequenced (advanced x.role call_event.IccnAcc moment h.call)))
+      (puts_changed x _ m.tunnel h.tunnel _ m.session h.call (with_link (new_link (record { moment = moment; block = h.block })) (with_numbers m.sequenced (advanced x.role call_event.IccnAcc moment h.call)))
       (record { role = refl; tunnels = refl; rises = omega arith }) o h.there h.made refl (second_over x.role moment h.call h.row))
 
   -- the LCP end of a call that is up made a step
   negotiated_calls : (moment : ℕ) (ev : Event) (m : Negotiated) → Negotiates x moment ev m y → CallsGo x y m.tunnel
   negotiated_calls moment ev m h =
       rw h.after
-      (puts_changed x _ m.tunnel h.tunnel _ m.session h.call (with_link (link_after h.calls.link (lcp_after h.calls.by h.calls.link.lcp)) h.call)
+      (puts_changed x _ m.tunnel h.tunnel _ m.session h.call (with_link (turn_at h.calls.by h.calls.link).link h.call)
       (record { role = refl; tunnels = refl; rises = omega arith }) o h.there h.live refl (up_row x.role h.call.state h.up))
 
   -- a data message of one had a number

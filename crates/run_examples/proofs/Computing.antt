@@ -11,6 +11,7 @@ use Rattle.lcp_wire.specs.Reading.{packet_of, options_at}
 use Rattle.lcp_end.specs.Options.{is_good, part, asked}
 use Rattle.lcp_end.specs.Hearing.{request_heard, ack_heard, nak_heard, reject_heard, answer_heard, answers_last, heard_as}
 use Rattle.lcp_end.specs.Steps.{sent as packet_sent, requesting, requested as link_asks, counted, zeroed, configured, terminated, signalled, acted, stepped as link_stepped, acked, naks_after, refused as link_refuses, confirmed as link_confirms, code_rejected, echoed, answered, opened as link_opened, after_heard, after_read, after_packet}
+use Rattle.call_link.specs.Turns.{linked}
 use Rattle.pppoe_session.specs.Subscribers.{holder_of, subscriber_of}
 use Rattle.end_model.specs.Access.{holder, farewell}
 use Rattle.end_names.specs.Names.{host_name, address_of, node_of, subscriber, calling_number}
@@ -25,7 +26,7 @@ use Rattle.end_model.specs.Hearing.{connects, takes_by, takes, about_call, in_ca
 use Rattle.end_model.specs.Asking.{replied, replies, call_of, session_named, granted, asked_by}
 use Rattle.end_model.specs.Connecting.{first_up, first_up_by, second_up, connects_call, linked_up, second_up_by, end_heard, end_heard_by, ends_named}
 use Rattle.end_model.specs.Frames.{sends_frame, counts, carried, carries}
-use Rattle.end_model.specs.Linking.{sends_packets, negotiated, links, hears_link, hears_lcp}
+use Rattle.end_model.specs.Linking.{sends_frames, negotiated, ends_linked, links_by, hears_link, hears_lcp}
 use Rattle.end_model.specs.Events.{turns, with_calls}
 use Rattle.end_model.specs.Stopping.{shuts, closed_told, closes_tunnel, rejected, rejects, closed_by, shuts_by}
 use Rattle.end_model.specs.Closing.{end_silent, end_told, ends_by, closes}
@@ -51,7 +52,7 @@ unfolding takes_id at put_at without u16_bytes u32_bytes is_control has_length h
     with_local opened opens_by opens accepted accepts_by accepts requested requests requests_at requests_all adds rings_over
     rings_by rings_new rings connected connects confirms takes_plain ignores takes_by takes replied replies first_up first_up_by
     second_up connects_call linked_up second_up_by about_call in_call hears hears_faulty hears_said hears_next hears_letter in_tunnel first_said hears_control sends_frame counts carried
-    sends_packets negotiated links hears_link hears_lcp carries hears_datagram turns with_calls ends_call ends_all shuts closed_told closes_tunnel rejected rejects closed_by shuts_by end_silent end_told ends_by closes rings_within answers_by refused refuses
+    linked sends_frames negotiated ends_linked links_by hears_link hears_lcp carries hears_datagram turns with_calls ends_call ends_all shuts closed_told closes_tunnel rejected rejects closed_by shuts_by end_silent end_told ends_by closes rings_within answers_by refused refuses
     of_no_call call_of session_named granted asked_by end_heard end_heard_by ends_named faulty_at faulty in_faulty_call
     gives_only placed with_look with_looks after_turn after_new in_new in_one_more in_main known_as opens_once addressed main_of reached_by
     reached_plain against_opening against_body declined opens_or_declines for_addressee least_in rings_in rings_at for_call then_heard handed hands_up receives only_by step_in plain_step uncovered_datagram birth_of with_birth

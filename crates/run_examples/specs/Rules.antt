@@ -10,6 +10,7 @@ use Rattle.avp_codec.specs.Spelling.{spelling}
 use Rattle.control_message.specs.declared.message.Message.TheVariants.{StopCcn}
 use Rattle.control_message.specs.Pairs.{pairs_of}
 use Rattle.lcp_end.specs.Steps.{fresh, opened}
+use Rattle.call_link.specs.Link.{Link, new_link}
 use Rattle.call_fsm.specs.declared.table.CallState.TheVariants as call_states
 use Rattle.tunnel_fsm.specs.declared.table.TunnelState.TheVariants as states
 use Rattle.end_model.specs.declared.event.Event.{Event}
@@ -34,6 +35,10 @@ use Rattle.run_examples.specs.Messages.{settled, answer, sccrq}
 abbrev pub lns : End
 lns = record (new_end role.Lns (config_of 4 0 None false)) { calls = (3, record { tunnel = 2; look = Established 2 (address_of 6) }) ∷ [] }
 
+-- a link that was opened at moment 0, whose LCP end asks for the magic number 17
+abbrev pub opened_link : Link
+opened_link = record (new_link (record { moment = 0; block = [] })) { lcp = (opened 0 (fresh 17)).kept }
+
 -- the call as it was just connected, session 8 of node 6, whose tunnel is 5 there: its LCP end asked for its options
 abbrev pub waiting : End
 waiting = record (new_end role.Lns (config_of 4 0 None false)) {
@@ -50,7 +55,7 @@ waiting = record (new_end role.Lns (config_of 4 0 None false)) {
           since = 0;
           subscriber = replicate 6 0;
           steps = [];
-          link = Some (record { lcp = (opened 0 (fresh 17)).kept; network = false });
+          link = Some opened_link;
           sequence = None;
         },
       ) ∷ [];
@@ -138,7 +143,7 @@ numbered sequence = record waiting {
           since = 0;
           subscriber = replicate 6 0;
           steps = [];
-          link = Some (record { lcp = (opened 0 (fresh 17)).kept; network = true });
+          link = Some (record opened_link { network = true });
           sequence = sequence;
         },
       ) ∷ [];

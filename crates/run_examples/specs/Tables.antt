@@ -1,6 +1,7 @@
 -- The tables at the end of a report, where a call isn't up yet, and where a letter wasn't taken.
 use Rattle.std.specs.Prelude.{◌≡◌, ℕ, List, [], ◌∷◌, ◌++◌, codes, None, Some, true, false, replicate}
 use Rattle.lcp_end.specs.Steps.{fresh}
+use Rattle.call_link.specs.Link.{new_link}
 use Rattle.tunnel_fsm.specs.declared.table.TunnelState.TheVariants as states
 use Rattle.call_fsm.specs.declared.table.CallState.TheVariants.{Established, WaitReply}
 use Rattle.end_names.specs.declared.role.Role.TheVariants as role
@@ -27,7 +28,7 @@ abbrev pub lns : ℕ → Tunnel
 lns queued = record {
   control = record { local = 7; peer = address_of 9; remote = 1; state = states.Established; channel = channel 1 queued 1 3; made = 0; heard = 0; closed = 0; flags = 3; challenge = None };
   letters = [];
-  calls = (5, record { remote = 1; state = Established; since = 0; subscriber = replicate 6 0; steps = []; link = Some (record { lcp = fresh 17; network = false }); sequence = None }) ∷ [];
+  calls = (5, record { remote = 1; state = Established; since = 0; subscriber = replicate 6 0; steps = []; link = Some (record (new_link (record { moment = 0; block = [] })) { lcp = fresh 17 }); sequence = None }) ∷ [];
 }
 
 abbrev pub lac_node : ℕ → Node

@@ -16,7 +16,7 @@ use Rattle.end_model.specs.Hearing.{connects, takes_by, takes, about_call, in_ca
 use Rattle.end_model.specs.Asking.{replied, replies, call_of, session_named, granted, asked_by}
 use Rattle.end_model.specs.Connecting.{first_up, first_up_by, second_up, connects_call, linked_up, second_up_by, end_heard, end_heard_by, ends_named}
 use Rattle.end_model.specs.Frames.{sends_frame, counts, carried, carries}
-use Rattle.end_model.specs.Linking.{sends_packets, negotiated, links, hears_link, hears_lcp}
+use Rattle.end_model.specs.Linking.{sends_frames, negotiated, ends_linked, links_by, hears_link, hears_lcp}
 use Rattle.end_model.specs.Events.{turns, with_calls}
 use Rattle.end_model.specs.Stopping.{shuts, closed_told, closes_tunnel, rejected, rejects, closed_by, shuts_by}
 use Rattle.end_model.specs.Closing.{end_silent, end_told, ends_by, closes}
@@ -38,7 +38,7 @@ unfolding digits u16_bytes u32_bytes takes_id counting_from at put_at without ho
     requests requests_at requests_all adds rings_over rings_by rings_new rings rings_within connects takes_by takes about_call in_call hears
     hears_faulty hears_said hears_next hears_letter in_tunnel first_said hears_control hears_datagram replied replies call_of session_named
     granted asked_by first_up first_up_by second_up connects_call linked_up second_up_by end_heard end_heard_by ends_named sends_frame
-    counts carried carries sends_packets negotiated links hears_link hears_lcp turns with_calls shuts closed_told closes_tunnel rejected
+    counts carried carries sends_frames negotiated ends_linked links_by hears_link hears_lcp turns with_calls shuts closed_told closes_tunnel rejected
     rejects closed_by shuts_by end_silent end_told ends_by closes answers_by refused refuses of_no_call faulty_at faulty in_faulty_call
     uncovered_datagram gives_only placed with_look with_looks after_turn after_new in_new in_one_more in_main known_as opens_once addressed
     main_of reached_by reached_plain against_opening against_body declined opens_or_declines for_addressee least_in rings_in rings_at

@@ -13,7 +13,7 @@ use Rattle.end_names.specs.declared.role.Role.TheVariants.{Lac}
 use Rattle.end_model.specs.Tunnels.{Tunnel}
 use Rattle.end_model.specs.End.{End}
 use Rattle.world_model.specs.World.{Sender, Deed}
-use Rattle.step_laws.specs.Moves.{InTunnel, WhyEnds, IsLate, IsDropped, IsHungUp, IsAsked, IsReplied, IsConnected, IsFinished, HasFault, fault_event}
+use Rattle.step_laws.specs.Moves.{InTunnel, WhyEnds, IsLate, IsDropped, IsHungUp, IsAsked, IsReplied, IsConnected, IsEnded, HasFault, fault_event}
 use Rattle.epoch_machine.specs.Tunnels.{is_active}
 use Rattle.epoch_machine.specs.Calls as calls
 use Rattle.epoch_machine.specs.Calls.{NoCall, Waits, is_call}
@@ -126,7 +126,7 @@ module _ (laws : Laws) (accs : Accounts) (ends : Ends) (w : World) (n : ℕ) (e 
       let r = laws.faulty accs n e sender ev h.moved.within t.control header f faulty in
       else_waits e.role c.state h.moved.does.on call_event.IcrqNotAcc silent (is ∙ ap (λ (y : CallFault). fault_event y.kind) r.1) refl
   waits_by silent (IsLate late is result error) = else_waits e.role c.state h.moved.does.on call_event.Close silent is refl
-  waits_by silent (IsFinished done is result error) = else_waits e.role c.state h.moved.does.on call_event.Close silent is refl
+  waits_by silent (IsEnded why done is result error) = else_waits e.role c.state h.moved.does.on call_event.Close silent is refl
   waits_by silent (IsDropped dropped is result error) = else_waits e.role c.state h.moved.does.on call_event.Close silent is refl
   waits_by silent (IsHungUp hung is result error) = else_waits e.role c.state h.moved.does.on call_event.LineDrop silent is refl
   waits_by silent (IsAsked remote serial calling hears is result error) = else_waits e.role c.state h.moved.does.on call_event.IcrqAcc silent is refl

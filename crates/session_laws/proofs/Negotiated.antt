@@ -1,4 +1,4 @@
--- The LCP end of a call makes a step. The machine knows of no link: to it the call is as before.
+-- The link of a call is called. The machine knows of no link: to it the call is as before.
 use Rattle.std.proofs.Common.{◌≡◌, inr, ℕ, [], refl, sym, ap, subst, Option, Some, arith}
 use Rattle.id_table.specs.Ids.{at, put}
 use Rattle.id_table.specs.Order.{at_new, at_other}
@@ -10,10 +10,10 @@ use Rattle.end_model.specs.declared.moves.Move.TheVariants as move
 use Rattle.end_model.specs.declared.tunnel.Call.{Call}
 use Rattle.end_model.specs.Tunnels.{Tunnel}
 use Rattle.end_model.specs.Calls.{counted}
-use Rattle.end_model.specs.Links.{with_link, link_after}
+use Rattle.end_model.specs.Links.{with_link}
 use Rattle.end_model.specs.End.{End}
 use Rattle.world_model.specs.World.{Sender, Deed}
-use Rattle.lcp_end.specs.Laws.{after as lcp_after}
+use Rattle.call_link.specs.Laws.{turn_at}
 use Rattle.epoch_machine.specs.Worlds.{World, all_rules}
 use Rattle.connection_laws.specs.Accounts.{about, entered_by}
 use Rattle.connection_laws.specs.Facts.{Accounts}
@@ -103,7 +103,7 @@ module _ (accs : Accounts) (ends : Ends) (w : World) (n : ℕ) (e x : End) (send
   negotiated_follows m d h =
       let o = h.moved.does in
       kept_follows accs ends w n e x sender moment ev (move.Negotiated m) d h tt refl o.tunnel o.there m.session o.call
-      (with_link (link_after o.calls.link (lcp_after o.calls.by o.calls.link.lcp)) o.call) o.live (record { state = refl; remote = refl })
+      (with_link (turn_at o.calls.by o.calls.link).link o.call) o.live (record { state = refl; remote = refl })
       (ap (λ (y : End). y.tunnels) o.after) (ap (λ (y : End). y.session_ids) o.after) (ap (λ (y : End). y.role) o.after)
 
   -- ---- the number of its data messages

@@ -14,7 +14,7 @@ use Rattle.end_model.specs.Channels.{counts_taken}
 use Rattle.end_model.specs.Links.{with_link}
 use Rattle.end_model.specs.End.{End}
 use Rattle.world_model.specs.World.{Sender, Deed}
-use Rattle.step_laws.specs.Links.{begun_link}
+use Rattle.call_link.specs.Link.{new_link}
 use Rattle.epoch_machine.specs.Letters.{Connect}
 use Rattle.epoch_machine.specs.Tunnels.{Open}
 use Rattle.epoch_machine.specs.Calls.{WaitsConnect, Up, is_second_up}
@@ -82,7 +82,7 @@ module _ (laws : Laws) (accs : Accounts) (ends : Ends) (w : World) (n : ℕ) (e 
   was = h.moved.does.call
 
   abbrev call : Call
-  call = with_link (begun_link h.moved.does.magic) (with_numbers m.sequenced (advanced e.role call_event.IccnAcc moment was))
+  call = with_link (new_link (record { moment = moment; block = h.moved.does.block })) (with_numbers m.sequenced (advanced e.role call_event.IccnAcc moment was))
 
   abbrev u : Tunnel
   u = record t { control = counts_taken t.control; calls = put t.calls s call }

@@ -1,10 +1,10 @@
 -- Where a turn leaves a call that waits in an open tunnel, there is no room for the request.
-use Rattle.std.proofs.Common.{◌≡◌, ◌⊎◌, inl, inr, ⊎_elim, ℕ, ◌<◌, Bool, true, false, List, [], ◌∷◌, ◌++◌, length, refl, sym, ap, ◌∙◌, subst, Option, Some, None, Result, Ok, Err, arith}
+use Rattle.std.proofs.Common.{◌≡◌, ◌⊎◌, ⊎_elim, ℕ, ◌<◌, Bool, true, false, List, [], ◌∷◌, ◌++◌, length, refl, sym, ap, ◌∙◌, subst, Option, Some, None, Result, Ok, Err, arith}
 use Rattle.std.proofs.lemmas.Bool.{eqb-true, eqb-false, true≢false, ltb-false}
 use Rattle.std.proofs.lemmas.Option.{none-some}
 use Rattle.std.specs.Prelude.{◌&&◌, ◌==◌, nat_lt, unwrap_or}
 use Rattle.id_table.specs.Ids.{at, put, without, ids_of, at-none}
-use Rattle.id_table.specs.Order.{Ascends, found_put, found_without, same_or_not}
+use Rattle.id_table.specs.Order.{Ascends, ascends-put, found_put, found_without, same_or_not}
 use Rattle.id_source.specs.Spaces.{takes_id}
 use Rattle.id_source.specs.declared.IdError.{IdError}
 use Rattle.wire_base.specs.declared.why.Why.{Why}
@@ -37,9 +37,10 @@ use Rattle.call_fsm.specs.declared.table.CallState.TheVariants as call
 use Rattle.end_model.specs.declared.tunnel.Call.{Call}
 use Rattle.end_model.specs.declared.tunnel.Config.{Config}
 use Rattle.end_model.specs.declared.tunnel.Control.{Control}
-use Rattle.end_model.specs.declared.tunnel.Link.{Link}
+use Rattle.call_link.specs.declared.turn.LinkTurn.{LinkTurn}
+use Rattle.call_link.specs.Link.{new_link}
+use Rattle.call_link.specs.Turns.{Opens, linked}
 use Rattle.end_names.specs.declared.role.Role.{Role}
-use Rattle.lcp_end.specs.Laws.{Call as LcpCall, OpenLink, after as lcp_after}
 use Rattle.step_laws.proofs.Linking.{linked_call, negotiated_is, negotiated_put}
 use Rattle.end_names.specs.declared.role.Role.TheVariants.{Lac, Lns}
 use Rattle.end_model.specs.declared.out.Out.TheVariants.{Cause}
@@ -50,10 +51,10 @@ use Rattle.end_model.specs.Stopping.{rejects, rejected, shut, shuts, closed_told
 use Rattle.end_model.specs.Messages.{connected_reason, connected_event, event_by, opening_reason, Told, tells_id, told_by}
 use Rattle.end_model.specs.Tunnels.{Turn}
 use Rattle.end_model.specs.Turn.{with_output, with_move, with_change, with_call, with_new, drops, ends_all, ends_call}
-use Rattle.end_model.specs.Openings.{with_local, opened, opens_by, opens, accepted, accepts_by, accepts, connected, confirms}
+use Rattle.end_model.specs.Openings.{connected, confirms}
 use Rattle.end_model.specs.Events.{with_calls}
-use Rattle.end_model.specs.Ringing.{rings_new, requested, requests, requests_at, requests_all, adds, rings_over, rings_by, rings_within, rings}
-use Rattle.end_model.specs.Hearing.{first_said, connects, takes_by, takes, about_call, in_call, hears, hears_faulty, hears_said, hears_next, hears_letter, is_duplicate, in_tunnel, hears_control, hears_datagram}
+use Rattle.end_model.specs.Ringing.{requested, requests, requests_at, requests_all, adds, rings_over, rings_by, rings_within, rings}
+use Rattle.end_model.specs.Hearing.{connects, takes_by, takes, about_call, in_call, hears, hears_faulty, hears_said, hears_next, hears_letter, is_duplicate, in_tunnel, hears_control, hears_datagram}
 use Rattle.end_model.specs.Sending.{gives, gives_as, settles, takes_one, reads_nr, takes_plain, ignores}
 use Rattle.end_model.specs.Channels.{has_room, may_take, counts_taken}
 use Rattle.end_model.specs.Reasons.{Reason, reason, out_of_state, fault_reason, out_of_order}
@@ -63,8 +64,8 @@ use Rattle.end_model.specs.Asking.{granted, asked_by, replied, replies, session_
 use Rattle.end_model.specs.Faulty.{faulty_at, faulty, in_faulty_call}
 use Rattle.end_model.specs.Moments.{is_closed}
 use Rattle.end_model.specs.Connecting.{first_up, first_up_by, second_up, connects_call, linked_up, second_up_by, end_heard, end_heard_by, ends_named}
-use Rattle.end_model.specs.Links.{with_link, new_link, is_passing}
-use Rattle.end_model.specs.Linking.{negotiated}
+use Rattle.end_model.specs.Links.{link_env, with_link, is_passing}
+use Rattle.end_model.specs.Linking.{sends_frames, negotiated}
 use Rattle.end_model.specs.Frames.{sends_frame, counts, carried, carries}
 use Rattle.step_laws.specs.Letters.{Among}
 use Rattle.step_laws.proofs.Lists.{branch, and_left, found_among, with_calls-more}
@@ -149,6 +150,43 @@ module _ (role : Role) (calls : List (ℕ × Call)) where
       (λ (a : (s ≡ k → ⊥) × (There t s c)). b.asked (λ opening. is_open (ap state_number state ∙ opening)) s c (at_first t b s c a.1) waits)
       (found_put (with_calls t.changed calls) k d s c (subst (λ xs. at xs s ≡ Some c) is there)))
 
+  -- a turn in which no call waits, whatever it did with the others
+  pub record Rests (t : Turn) : Type 0 where
+    pub none : (IsOpening t → ⊥) → (s : ℕ) (c : Call) → There t s c → Waits role s c → ⊥
+    pub ascends : Ascends (with_calls t.changed calls)
+
+  pub begins_rests : Ascends calls → (t : Turn) → Begins t → Rests t
+  unfolding with_calls
+  begins_rests order t b = record { none = λ is_open s c there waits. b.asked is_open s c (at_first t b s c there) waits; ascends = rw b.none order }
+
+  rests_asked : (t u : Turn) → u.changed ≡ t.changed → u.control.state ≡ t.control.state → Rests t → Asked u
+  rests_asked t u calls_are state r is_open s c there waits =
+      absurd (r.none (λ opening. is_open (ap state_number state ∙ opening)) s c (subst (λ xs. at (with_calls xs calls) s ≡ Some c) calls_are there) waits)
+
+  -- frames that are sent in a call that is established
+  counts_rests : (s : ℕ) (frame : List ℕ) (c : Call) (o : Option ℕ) (t : Turn) → is_up c.state ≡ true → Rests t → Rests (counts s c o (sends_frame s frame c t))
+  unfolding counts sends_frame with_output with_move with_call
+  counts_rests s frame c None t up r = record { none = r.none; ascends = r.ascends }
+  counts_rests s frame c (Some n) t up r =
+      let more = with_calls-more t.changed s (Some (counted c)) calls in
+      let other = other_state c.state call.Established (up_state c.state up) (λ k. absurd cc) in
+      record {
+        none = λ is_open q d there waits. ⊎_elim
+            (λ (a : (q ≡ s) × (counted c ≡ d)). other (ap (λ (x : Call). x.state) a.1 ∙ (requested_state role d.state waits.row).0))
+            (λ (a : (q ≡ s → ⊥) × (There t q d)). r.none is_open q d a.1 waits)
+            (found_put (with_calls t.changed calls) s (counted c) q d (subst (λ xs. at xs q ≡ Some d) more there));
+        ascends = subst Ascends (sym more) (ascends-put s (counted c) (with_calls t.changed calls) r.ascends);
+      }
+
+  carried_rests : (s : ℕ) (frame : List ℕ) (c : Call) (t : Turn) → is_up c.state ≡ true → Rests t → Rests (carried s frame c t)
+  unfolding carried
+  carried_rests s frame c t up r = counts_rests s frame c c.sequence t up r
+
+  pub frames_rest : (s : ℕ) (fs : List (List ℕ)) (c : Call) (t : Turn) → is_up c.state ≡ true → Rests t → Rests (sends_frames s fs c t)
+  unfolding sends_frames
+  frames_rest s [] c t up r = r
+  frames_rest s (f ∷ fs) c t up r = frames_rest s fs (counted c) (carried s f c t) up (carried_rests s f c t up r)
+
   -- one more, where none waits but in a tunnel without room
   put_more : (t u : Turn) (k : ℕ) (d : Call) → with_calls u.changed calls ≡ put (with_calls t.changed calls) k d → u.control ≡ t.control → (d.state ≡ call.WaitTunnel → ⊥) → Asked t
       → Asked u
@@ -158,12 +196,11 @@ module _ (role : Role) (calls : List (ℕ × Call)) where
       (λ (a : (s ≡ k → ⊥) × (There t s c)). h (λ opening. is_open (ap (λ (x : Control). state_number x.state) same ∙ opening)) s c a.1 waits)
       (found_put (with_calls t.changed calls) k d s c (subst (λ xs. at xs s ≡ Some c) is there))
 
-  pub negotiated_asked : (s : ℕ) (c : Call) (l : Link) (by : LcpCall) (t : Turn) → is_up c.state ≡ true → Asked t
-      → Asked (negotiated s c l (lcp_after by l.lcp) t)
-  negotiated_asked s c l by t up h =
-      let is = negotiated_is s c l by t in
-      put_more t (negotiated s c l (lcp_after by l.lcp) t) s (linked_call c l by)
-      (negotiated_put calls s c l by t) (ap (λ (x : Turn). x.control) is)
+  pub negotiated_asked : (s : ℕ) (c : Call) (v : LinkTurn) (t : Turn) → is_up c.state ≡ true → Asked t → Asked (negotiated s c v t)
+  negotiated_asked s c v t up h =
+      let is = negotiated_is s c v t in
+      put_more t (negotiated s c v t) s (linked_call c v)
+      (negotiated_put calls s c v t) (ap (λ (x : Turn). x.control) is)
       (other_state c.state call.Established (up_state c.state up) (λ k. absurd cc)) h
 
   pub settled : (again : Bool) (letters : List Letter) (t : Turn) → Asked t → Asked (settles again letters t)
@@ -402,8 +439,9 @@ module _ (role : Role) (calls : List (ℕ × Call)) where
       → Asked (linked_up role sequenced s c t)
   unfolding linked_up connects_call advanced
   linked_up_asked sequenced s c t row b =
-      let d = with_link (new_link t.on.block) (with_numbers sequenced (advanced role call_event.IccnAcc t.on.moment c)) in
-      negotiated_asked s d (new_link t.on.block) (OpenLink t.on.moment) (second_up sequenced s d t) row (second_up_asked sequenced s d t row b)
+      let l = new_link (link_env t.on) in
+      let d = with_link l (with_numbers sequenced (advanced role call_event.IccnAcc t.on.moment c)) in
+      negotiated_asked s d (linked (link_env t.on) Opens l) (second_up sequenced s d t) row (second_up_asked sequenced s d t row b)
 
   refused_asked : (r : Reason) (remote : ℕ) (t : Turn) → Begins t → Asked (refused r remote t)
   unfolding refused gives with_output with_move takes_one
@@ -426,37 +464,36 @@ module _ (role : Role) (calls : List (ℕ × Call)) where
   module _ (order : Ascends calls) where
     -- ---- calls that end
 
-    ascends_first : (t : Turn) → Begins t → Ascends (with_calls t.changed calls)
-    unfolding with_calls
-    ascends_first t b = rw b.none order
-
-    takes_out : (t u : Turn) (k : ℕ) → u.changed ≡ t.changed ++ (k, None) ∷ [] → u.control.state ≡ t.control.state → Begins t → Asked u
-    takes_out t u k more state b is_open s c there waits =
+    takes_out : (t u : Turn) (k : ℕ) → u.changed ≡ t.changed ++ (k, None) ∷ [] → u.control.state ≡ t.control.state → Rests t → Asked u
+    takes_out t u k more state r is_open s c there waits =
         let less : with_calls u.changed calls ≡ without (with_calls t.changed calls) k = ap (λ xs. with_calls xs calls) more ∙ with_calls-more t.changed k None calls in
-        let sorted : Ascends (with_calls t.changed calls) = ascends_first t b in
-        let was = (found_without (with_calls t.changed calls) k s c sorted (subst (λ xs. at xs s ≡ Some c) less there)).1 in
-        absurd (b.asked (λ opening. is_open (ap state_number state ∙ opening)) s c (at_first t b s c was) waits)
+        let was = (found_without (with_calls t.changed calls) k s c r.ascends (subst (λ xs. at xs s ≡ Some c) less there)).1 in
+        absurd (r.none (λ opening. is_open (ap state_number state ∙ opening)) s c was waits)
 
-    silent_asked : (k : ℕ) (booked : Bool) (t : Turn) → Begins t → Asked (end_silent k booked t)
+    silent_asked : (k : ℕ) (booked : Bool) (t : Turn) → Rests t → Asked (end_silent k booked t)
     unfolding end_silent ends_call with_output with_change with_move
-    silent_asked k booked t b = takes_out t (end_silent k booked t) k refl refl b
+    silent_asked k booked t r = takes_out t (end_silent k booked t) k refl refl r
 
-    told_asked : (for : CauseOf) (k : ℕ) (c : Call) (result : ℕ) (error : Option ℕ) (t : Turn) → Begins t
+    told_asked : (for : CauseOf) (k : ℕ) (c : Call) (result : ℕ) (error : Option ℕ) (t : Turn) → Rests t
         → Asked (end_told k c result error (with_output (Cause for) t))
     unfolding end_told gives ends_call with_output with_change with_move
-    told_asked for k c result error t b = takes_out t (end_told k c result error (with_output (Cause for) t)) k refl refl b
+    told_asked for k c result error t r = takes_out t (end_told k c result error (with_output (Cause for) t)) k refl refl r
 
-    pub ends_by_asked : (for : CauseOf) (result : ℕ) (error : Option ℕ) (k : ℕ) (c : Call) (a : CallAction) (t : Turn) → Begins t
+    full_asked : (t : Turn) → Rests t → Asked (drops why.Queue t)
+    unfolding drops with_output
+    full_asked t r = rests_asked t (drops why.Queue t) refl refl r
+
+    pub ends_by_asked : (for : CauseOf) (result : ℕ) (error : Option ℕ) (k : ℕ) (c : Call) (a : CallAction) (t : Turn) → Rests t
         → Asked (ends_by for result error k c a t)
     unfolding ends_by
-    ends_by_asked for result error k c call_action.CleanUp t b = silent_asked k (is_up c.state) t b
-    ends_by_asked for result error k c call_action.SendCdn t b =
-        branch Asked (has_room t.control) _ _ (λ may. told_asked for k c result error t b) (λ full. dropped why.Queue t b)
-    ends_by_asked for result error k c call_action.Nothing t b = same t t refl refl b
-    ends_by_asked for result error k c call_action.SendIcrq t b = same t t refl refl b
-    ends_by_asked for result error k c call_action.SendIcrp t b = same t t refl refl b
-    ends_by_asked for result error k c call_action.SendIccn t b = same t t refl refl b
-    ends_by_asked for result error k c call_action.DropSession t b = same t t refl refl b
+    ends_by_asked for result error k c call_action.CleanUp t r = silent_asked k (is_up c.state) t r
+    ends_by_asked for result error k c call_action.SendCdn t r =
+        branch Asked (has_room t.control) _ _ (λ may. told_asked for k c result error t r) (λ full. full_asked t r)
+    ends_by_asked for result error k c call_action.Nothing t r = rests_asked t t refl refl r
+    ends_by_asked for result error k c call_action.SendIcrq t r = rests_asked t t refl refl r
+    ends_by_asked for result error k c call_action.SendIcrp t r = rests_asked t t refl refl r
+    ends_by_asked for result error k c call_action.SendIccn t r = rests_asked t t refl refl r
+    ends_by_asked for result error k c call_action.DropSession t r = rests_asked t t refl refl r
 
     pub closes_asked : (for : CauseOf) (on : CallEvent) (result s : ℕ) (letters : List Letter) (o : Option Call) (t : Turn) → Begins t
         → Asked (settles false letters (closes role for on result s o t))
@@ -466,14 +503,14 @@ module _ (role : Role) (calls : List (ℕ × Call)) where
         by : (o : Option Call) → Asked (closes role for on result s o t)
         by None = dropped why.Call t b
         by (Some c) =
-            branch Asked (nat_lt s 65536) _ _ (λ small. ends_by_asked for result None s c (row_for role c on).1 t b) (λ big. same t t refl refl b)
+            branch Asked (nat_lt s 65536) _ _ (λ small. ends_by_asked for result None s c (row_for role c on).1 t (begins_rests order t b)) (λ big. same t t refl refl b)
 
     -- ---- letters about a call that there is
 
     answers_asked : (r : Reason) (s : ℕ) (c : Call) (a : CallAction) (t : Turn) → Begins t → Asked (answers_by r s c a t)
     unfolding answers_by
     answers_asked r s c a t b =
-        branch Asked (nat_lt s 65536) _ _ (λ small. ends_by_asked r.cause r.result r.error s c a (takes_plain t) (plain_begins t b)) (λ big. plain t b)
+        branch Asked (nat_lt s 65536) _ _ (λ small. ends_by_asked r.cause r.result r.error s c a (takes_plain t) (begins_rests order (takes_plain t) (plain_begins t b))) (λ big. plain t b)
 
     asked_by_asked : (s remote : ℕ) (g : Result ℕ Reason) (o : Option Call) (t : Turn) → Begins t → Asked (asked_by role s remote g o t)
     unfolding asked_by
@@ -499,7 +536,7 @@ module _ (role : Role) (calls : List (ℕ × Call)) where
 
     end_heard_asked : (k : ℕ) (booked : Bool) (t : Turn) → Begins t → Asked (end_heard k booked t)
     unfolding end_heard ends_call with_output with_change with_move takes_one
-    end_heard_asked k booked t b = takes_out t (end_heard k booked t) k refl refl b
+    end_heard_asked k booked t b = takes_out t (end_heard k booked t) k refl refl (begins_rests order t b)
 
     end_heard_by_asked : (s : ℕ) (o : Option Call) (t : Turn) → Begins t → Asked (end_heard_by role s o t)
     unfolding end_heard_by

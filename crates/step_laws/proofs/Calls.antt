@@ -13,7 +13,6 @@ use Rattle.control_message.specs.declared.message.Message.TheVariants.{Sccrq, Sc
 use Rattle.tunnel_fsm.specs.Rows.{state_number}
 use Rattle.call_fsm.specs.declared.table.CallEvent.{CallEvent}
 use Rattle.call_fsm.specs.declared.table.CallEvent.TheVariants as call_event
-use Rattle.call_fsm.specs.declared.table.CallState.TheVariants as call
 use Rattle.call_fsm.specs.declared.table.CallAction.{CallAction}
 use Rattle.call_fsm.specs.declared.table.CallAction.TheVariants as call_action
 use Rattle.end_model.specs.declared.tunnel.Call.{Call}
@@ -43,7 +42,6 @@ use Rattle.step_laws.proofs.Tells.{granted_stands}
 use Rattle.step_laws.proofs.Turns.{TurnOk, PlainAt, at_turn, is_roomy, IsGranted, replied_ok, first_up_ok, second_up_ok, end_heard_ok, plain_ok, ignores_ok, refused_ok}
 use Rattle.step_laws.proofs.Settling.{Settled, unsent}
 use Rattle.step_laws.proofs.Comes.{Taking, heard_in, comes_at, now, begun, came_at, told_at, calls_first, spare_first, at_first, that_call, no_call}
-use Rattle.end_model.specs.Links.{magic_of}
 use Rattle.step_laws.proofs.Linking.{linked_up_ok}
 use Rattle.step_laws.proofs.Closing.{Ends, ends_leave}
 
@@ -267,7 +265,7 @@ module _ (e : End) (moment : ℕ) (ev : Event) (letters : List Letter) (calls : 
   second_up_by_ok session speed framing sequenced t f is_open hears (Some c) is =
       branch Good (is_up (row_for e.role c call_event.IccnAcc).0) _ _
       (λ row. linked_up_ok e moment ev letters calls i sequenced session c t row f.fresh.good.stays.4
-      (sent_none _ (second_up_ok e moment ev letters calls i session speed framing (magic_of t.on.block) sequenced c t is_open
+      (sent_none _ (second_up_ok e moment ev letters calls i session speed framing t.on.block sequenced c t is_open
       (at_first e moment ev letters calls i t f.fresh session (Some c) is) hears row (spare_first e moment ev letters calls i t f) f.fresh.good)))
       (λ none. answers_ok out_of_state session c call_event.IccnAcc t f is
       (comes_at e moment ev letters calls i t f session (Iccn speed framing sequenced)

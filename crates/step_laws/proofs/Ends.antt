@@ -4,7 +4,7 @@ use Rattle.step_laws.specs.Callers.{IsRing, WantsTunnel}
 use Rattle.std.proofs.Common.{◌≡◌, ◌⊎◌, inl, inr, ⊎_elim, ℕ, ◌<◌, ◌≤◌, length, Bool, true, false, List, [], refl, sym, ap, ◌∙◌, subst, Option, Some, None, Result, Ok, Err, arith, rules}
 use Rattle.std.proofs.lemmas.Bool.{eqb-true, eq-eqb, ltb-true, true≢false}
 use Rattle.std.proofs.lemmas.List.{append-nil}
-use Rattle.std.specs.Prelude.{◌==◌, ◌&&◌, nat_lt, drop}
+use Rattle.std.specs.Prelude.{◌==◌, ◌&&◌, nat_lt}
 use Rattle.std.specs.List.{AllByRecursion}
 use Rattle.id_table.specs.Ids.{at, put}
 use Rattle.id_table.specs.Order.{ascends-put, ascends-empty, put-again, at_new, found_put}
@@ -30,8 +30,9 @@ use Rattle.control_message.specs.declared.message.Message.TheVariants.{Sccrq, Sc
 use Rattle.control_message.specs.declared.message.Opening.{Opening}
 use Rattle.end_model.specs.declared.tunnel.Call.{Call}
 use Rattle.end_model.specs.declared.tunnel.Control.{Control}
-use Rattle.end_model.specs.declared.tunnel.Link.{Link}
-use Rattle.lcp_end.specs.Laws.{OnPacket}
+use Rattle.call_link.specs.Link.{Link}
+use Rattle.call_link.specs.Turns.{Hears as HearsIt}
+use Rattle.call_link.specs.Laws.{LinkStep}
 use Rattle.end_model.specs.declared.event.Event.{Event}
 use Rattle.end_model.specs.declared.event.Event.TheVariants.{Datagram, Payload, Lower, Lcp, Hang, OpenTunnel, DropCall, CloseTunnel}
 use Rattle.end_model.specs.declared.out.Out.TheVariants.{Drop, Cause as Refused}
@@ -52,11 +53,11 @@ use Rattle.end_model.specs.Ringing.{adds, rings_new, rings}
 use Rattle.end_model.specs.Hearing.{first_said, hears_control, hears_datagram}
 use Rattle.end_model.specs.Frames.{carries}
 use Rattle.end_model.specs.Linking.{hears_link, hears_lcp}
-use Rattle.end_model.specs.Links.{is_passing}
+use Rattle.end_model.specs.Links.{link_env, is_passing}
 use Rattle.end_model.specs.End.{End, Stepped, env_of, gives_only, placed, with_looks, after_turn, after_new}
 use Rattle.step_laws.specs.Room.{IsChosen, RingsNew}
 use Rattle.step_laws.specs.Causes.{IsTold, ForNew, ForOpening, Stands}
-use Rattle.step_laws.specs.Links.{HearsLcp, IsCalled, ForPacket, IsGiven}
+use Rattle.step_laws.specs.Links.{HearsLcp, IsCalled, ForFrame, IsGiven}
 use Rattle.step_laws.specs.Moves.{LacksSecret, has_all_tunnels, IsUnknown, Came, IsAgain, IsStop, IsFor, Hears, Chain, begun, WhyEnds, IsDropped, IsHungUp, ByOperator}
 use Rattle.step_laws.specs.Steps.{IsKept, AreKept, IsChain}
 use Rattle.step_laws.proofs.Lists.{all_map, and_left, and_right, branch, ascends_placed, ascends_looks}
@@ -64,7 +65,7 @@ use Rattle.step_laws.proofs.Owing.{Fits, closed_owes, dropped_owes, fits_given, 
 use Rattle.step_laws.proofs.Openings.{not_all}
 use Rattle.step_laws.proofs.Tells.{Tells}
 use Rattle.step_laws.proofs.Turns.{IsWord, Stays, Held, held_given, held_learnt, next_after, at_turn, TurnOk, learnt_state, learnt_queued, drops_ok, adds_ok}
-use Rattle.step_laws.proofs.Linking.{carried_ok, links_leave}
+use Rattle.step_laws.proofs.Linking.{ended_stands, carried_ok, links_leave}
 use Rattle.step_laws.proofs.Settling.{Settled, unsent, settled_ok, settles_ok}
 use Rattle.step_laws.proofs.Sending.{at_last, word_is, ok_is}
 use Rattle.step_laws.proofs.Comes.{Fresh}
@@ -328,26 +329,26 @@ module _ (e : End) (kept : AreKept e) (moment : ℕ) (ev : Event) where
           (IsGiven given (and_right (is_up c.state) _ up)) (unsent e moment ev t.letters t.calls i start begins.good)))))
           (λ down. dropped_leads why.Closed (λ q. absurd cc))
 
-      -- an LCP packet came up a call
-      packet_chain : (s peer : ℕ) (frame : List ℕ) (c : Call) → at t.calls s ≡ Some c → is_up c.state ≡ true → s < 65536
+      -- a frame for its link came up a call
+      link_chain : (s peer : ℕ) (frame : List ℕ) (c : Call) → at t.calls s ≡ Some c → is_up c.state ≡ true → s < 65536
           → HearsLcp ev peer t.control.local s frame → (o : Option Link) → c.link ≡ o → leads (hears_link e.role t.letters s frame c o start)
       unfolding hears_link with_calls
-      packet_chain s peer frame c found up small hears None has = dropped_leads why.Closed (λ q. absurd cc)
-      packet_chain s peer frame c found up small hears (Some l) has =
-          let by = OnPacket (drop 2 frame) block moment in
-          let called : IsCalled ev moment t.control s l by = ForPacket peer frame block hears refl in
+      link_chain s peer frame c found up small hears None has = dropped_leads why.Closed (λ q. absurd cc)
+      link_chain s peer frame c found up small hears (Some l) has =
+          let by : LinkStep = record { env = link_env start.on; call = HearsIt frame } in
+          let called : IsCalled ev moment t.control s l by = ForFrame peer frame hears refl in
           settled_leads _ (links_leave e moment ev t.letters t.calls i s c l by start
-          (record { found = found; has = has; up = up; called = called }) small
-          (λ done told. record {
+          (record { found = found; has = has; up = up; at_moment = refl; called = called }) small
+          (λ why ends told. ended_stands e moment ev by l why ends (record {
             id = i;
             tunnel = t;
             there = is;
             session = s;
             call = c;
             live = found;
-            finishes = record { calls = record { link = l; has = has; by = by; called = called }; finished = done };
+            ends = record { calls = record { link = l; has = has; by = by; at_moment = refl; called = called }; ends = ends };
             row = told;
-          })
+          }))
           (unsent e moment ev t.letters t.calls i start begins.good)).ok
 
       pub lcp_chain : (s peer : ℕ) (frame : List ℕ) → HearsLcp ev peer t.control.local s frame
@@ -359,7 +360,7 @@ module _ (e : End) (kept : AreKept e) (moment : ℕ) (ev : Event) where
           by None found = dropped_leads why.Call (λ q. absurd cc)
           by (Some c) found =
               branch leads (nat_lt s 65536 && is_up c.state) _ _
-              (λ up. packet_chain s peer frame c found (and_right (nat_lt s 65536) _ up) (ltb-true s 65536 (and_left (nat_lt s 65536) _ up)) hears c.link refl)
+              (λ up. link_chain s peer frame c found (and_right (nat_lt s 65536) _ up) (ltb-true s 65536 (and_left (nat_lt s 65536) _ up)) hears c.link refl)
               (λ down. dropped_leads why.Closed (λ q. absurd cc))
 
     -- ---- a tunnel that is new

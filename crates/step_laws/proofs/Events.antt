@@ -1,7 +1,7 @@
 -- On each event a turn hands nothing up, one call at most is born in it, Nr is read once at most, and the frames that it sends down calls are those that
 -- may be sent.
 use Rattle.end_names.specs.Names.{subscriber}
-use Rattle.std.proofs.Common.{◌≡◌, ◌⊎◌, inl, inr, ℕ, false, List, ◌++◌, length, drop, refl, ◌∙◌, Some, Result, Ok, Err, arith}
+use Rattle.std.proofs.Common.{◌≡◌, ◌⊎◌, inl, inr, ℕ, false, List, ◌++◌, length, refl, ◌∙◌, Some, Result, Ok, Err, arith}
 use Rattle.std.proofs.lemmas.Grind.{flat_map-append}
 use Rattle.std.proofs.lemmas.List.{length-append}
 use Rattle.std.specs.Prelude.{◌==◌, unwrap_or}
@@ -21,9 +21,10 @@ use Rattle.tunnel_fsm.specs.Rows.{rows, row_of, state_number}
 use Rattle.call_fsm.specs.declared.table.CallEvent.TheVariants as call_event
 use Rattle.end_model.specs.declared.tunnel.Call.{Call}
 use Rattle.end_model.specs.declared.tunnel.Config.{Config}
-use Rattle.end_model.specs.declared.tunnel.Link.{Link}
+use Rattle.call_link.specs.Link.{Link}
 use Rattle.end_names.specs.declared.role.Role.{Role}
-use Rattle.lcp_end.specs.Steps.{after_packet}
+use Rattle.call_link.specs.Turns.{Hears, linked}
+use Rattle.end_model.specs.Links.{link_env}
 use Rattle.end_model.specs.declared.event.Event.{Event}
 use Rattle.end_model.specs.declared.event.Event.TheVariants.{Datagram, Ring, Payload, Lower, Lcp, Hang, OpenTunnel, DropCall, CloseTunnel, Tick, Admitted, Frame}
 use Rattle.end_model.specs.declared.out.Out.{Out}
@@ -122,7 +123,7 @@ module _ (F : ℕ → List ℕ → Type 0) (on : Ground) where
     pub opened : (s : ℕ) → OpensSo F on 0 1 role s (at calls s)
     pub ticks : ev ≡ Tick → (s : ℕ) → TicksSo F on 0 0 s (at calls s)
     pub hears : (s : ℕ) (frame : List ℕ) → ev ≡ Lcp s frame → (c : Call) (l : Link) → at calls s ≡ Some c → c.link ≡ Some l
-        → AreSo F on 0 0 s (after_packet (drop 2 frame) on.block on.moment l.lcp).out.packets
+        → AreSo F on 0 0 s (linked (link_env on) (Hears frame) l).frames
 
   pub turns_quiet : (role : Role) (c : Config) (letters : List Letter) (calls : List (ℕ × Call)) (ev : Event) (t : Turn) → Allows role calls ev
       → IsQuiet F on 0 0 t

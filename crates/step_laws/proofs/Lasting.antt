@@ -19,26 +19,25 @@ use Rattle.call_fsm.specs.declared.table.CallAction.TheVariants as call_action
 use Rattle.call_fsm.specs.declared.table.CallEvent.TheVariants as call_event
 use Rattle.end_model.specs.declared.tunnel.Call.{Call}
 use Rattle.end_model.specs.declared.tunnel.Control.{Control}
-use Rattle.end_model.specs.declared.tunnel.Link.{Link}
 use Rattle.end_names.specs.declared.role.Role.{Role}
-use Rattle.lcp_end.specs.Laws.{Call as LcpCall, OnTick, after as lcp_after}
-use Rattle.lcp_end.specs.Steps.{is_due}
+use Rattle.call_link.specs.declared.turn.LinkTurn.{LinkTurn}
+use Rattle.call_link.specs.Link.{Link, is_due}
 use Rattle.end_model.specs.declared.event.Event.TheVariants.{Tick}
-use Rattle.end_model.specs.Calls.{row_for, is_set_up, is_up}
+use Rattle.end_model.specs.Calls.{counted_all, row_for, is_set_up, is_up}
 use Rattle.end_model.specs.Tunnels.{Tunnel, Turn, turn_of}
 use Rattle.end_model.specs.Turn.{with_output, with_move, with_change, ends_call, drops}
 use Rattle.end_model.specs.Sending.{gives, sends_letter, sends_now, lets_go, goes_by, lets_all_go, repeats, acknowledges, outstanding, acknowledged_after, settles}
 use Rattle.end_model.specs.Channels.{has_room, counts_sent, counts_repeated}
 use Rattle.end_model.specs.Closing.{end_silent, end_told, ends_by}
 use Rattle.end_model.specs.Ticking.{greeted, greets, limits_at, limits_all, goes_quietly, clears, ticks_by, ticks}
-use Rattle.end_model.specs.Linking.{links, ticks_link}
+use Rattle.end_model.specs.Linking.{sends_frames, ends_linked, links_by, ticks_link}
 use Rattle.end_model.specs.Moments.{is_over, patience, is_at_its_end}
 use Rattle.end_model.specs.Events.{turns}
 use Rattle.end_model.specs.End.{End, env_of}
 use Rattle.step_laws.specs.Left.{FailedTunnelsGo}
 use Rattle.step_laws.specs.Failing.{IsGivenUp, HasFailed, IsNotSetUp, WasClosed, IsUnanswered}
 use Rattle.step_laws.proofs.Lists.{branch}
-use Rattle.step_laws.proofs.Linking.{negotiated_is}
+use Rattle.step_laws.proofs.Linking.{frames_same, negotiated_is}
 use Rattle.step_laws.proofs.Moments.{failed_ends}
 use Rattle.step_laws.proofs.Late.{ticks_leave}
 
@@ -156,19 +155,19 @@ module _ (moment : ℕ) where
     ends_good for result s c call_action.SendIccn t h = h
     ends_good for result s c call_action.DropSession t h = h
 
-    -- what an LCP end gives is no letter
-    links_good : (s : ℕ) (c : Call) (l : Link) (by : LcpCall) (t : Turn) → Good t → Good (links role letters s c l (lcp_after by l.lcp) t)
-    unfolding links
-    links_good s c l by t h =
-        branch Good (lcp_after by l.lcp).out.finished _ _
-        (λ done. settled_good false letters _ (ends_good cause.Lcp 3 s c (row_for role c call_event.Close).1 t h))
-        (λ no. subst Good (sym (negotiated_is s c l by t)) h)
+    -- what a link gives is no letter
+    links_good : (s : ℕ) (c : Call) (v : LinkTurn) (o : Option CauseOf) (t : Turn) → Good t → Good (links_by role letters s c v o t)
+    unfolding links_by ends_linked
+    links_good s c v None t h = subst Good (sym (negotiated_is s c v t)) h
+    links_good s c v (Some for) t h =
+        settled_good false letters _ (ends_good for 3 s (counted_all v.frames c) (row_for role c call_event.Close).1 (sends_frames s v.frames c t)
+        (subst Good (sym (frames_same s v.frames c t)) h))
 
     ticks_link_good : (s : ℕ) (c : Call) (o : Option Link) (t : Turn) → Good t → Good (ticks_link role letters s c o t)
     unfolding ticks_link
     ticks_link_good s c None t h = h
     ticks_link_good s c (Some l) t h =
-        branch Good (nat_lt s 65536 && is_up c.state && is_due t.on.moment l.lcp) _ _ (λ due. links_good s c l (OnTick t.on.moment) t h) (λ no. h)
+        branch Good (nat_lt s 65536 && is_up c.state && is_due t.on.moment l) _ _ (λ due. links_good s c _ _ t h) (λ no. h)
 
     limits_at_good : (s : ℕ) (o : Option Call) (t : Turn) → Good t → Good (limits_at role letters s o t)
     unfolding limits_at

@@ -1,7 +1,8 @@
 -- What the data plane sees of each session stays so.
 use Rattle.std.proofs.Common.{◌≡◌, ⊎_elim, ℕ, ◌+◌, ◌<◌, ◌≤◌, Bool, true, false, List, [], ◌∷◌, refl, sym, ap, ◌∙◌, subst, Option, Some, None, Ok, arith}
+use Rattle.std.proofs.lemmas.Bool.{true≢false}
 use Rattle.std.proofs.lemmas.Option.{none-some}
-use Rattle.std.specs.Prelude.{◌&&◌, ◌||◌, not, map}
+use Rattle.std.specs.Prelude.{◌&&◌, not, map}
 use Rattle.id_source.specs.Spaces.{Space, takes_id, after_id, draw_is, next_is}
 use Rattle.wire_base.specs.declared.letter.Letter.{Letter}
 use Rattle.tunnel_fsm.specs.declared.table.TunnelState.TheVariants as tunnel
@@ -10,7 +11,9 @@ use Rattle.id_table.specs.Order.{Ascends, ascends-put, ascends-empty, at_new, at
 use Rattle.call_fsm.specs.declared.table.CallEvent.TheVariants as call_event
 use Rattle.call_fsm.specs.declared.table.CallState.{CallState}
 use Rattle.call_fsm.specs.declared.table.CallState.TheVariants.{Established}
-use Rattle.end_model.specs.declared.tunnel.Link.{Link}
+use Rattle.call_link.specs.Link.{Link, new_link}
+use Rattle.call_link.specs.Laws.{turn_at}
+use Rattle.call_link.specs.Told.{each_tells_opening}
 use Rattle.end_names.specs.declared.role.Role.{Role}
 use Rattle.end_names.specs.declared.role.Role.TheVariants.{Lac, Lns}
 use Rattle.end_model.specs.declared.event.Event.{Event}
@@ -23,9 +26,7 @@ use Rattle.end_model.specs.declared.tunnel.Control.{Control}
 use Rattle.session_looks.specs.declared.look.Look.TheVariants as look
 use Rattle.end_model.specs.Calls.{call_row, advanced, with_numbers, counted, rung, asked_for}
 use Rattle.end_model.specs.Tunnels.{Tunnel}
-use Rattle.end_model.specs.Links.{with_link, link_after, is_first_open, looks_of}
-use Rattle.lcp_end.specs.Laws.{after as lcp_after}
-use Rattle.step_laws.specs.Links.{begun_link}
+use Rattle.end_model.specs.Links.{with_link, looks_of}
 use Rattle.end_model.specs.End.{End, with_look, with_looks}
 use Rattle.step_laws.specs.Callers.{wanted_by_lac}
 use Rattle.step_laws.specs.Moves.{with_tunnel, Does, Chain}
@@ -83,15 +84,15 @@ same_place places s p is q = ⊎_elim
     (λ o. sym (at_other places s p q o))
     (same_or_not q s)
 
--- what is seen of a call once LCP was open in it, or is as before
-opened_place : (places : List (ℕ × CallPlace)) (s i peer : ℕ) (network up : Bool)
-    → at places s ≡ Some (record { tunnel = i; look = look_by network i peer }) → (q : ℕ)
-    → at (with_looks (looks_of (up && not network) s) places) q ≡ at (put places s (record { tunnel = i; look = look_by (network || up) i peer })) q
+-- what is seen of a call where frames of the network begin to pass, or is as before
+opened_place : (places : List (ℕ × CallPlace)) (s i peer : ℕ) (was passes opens : Bool) → opens ≡ (not was && passes) → (was ≡ true → passes ≡ true)
+    → at places s ≡ Some (record { tunnel = i; look = look_by was i peer }) → (q : ℕ)
+    → at (with_looks (looks_of opens s) places) q ≡ at (put places s (record { tunnel = i; look = look_by passes i peer })) q
 unfolding with_looks with_look
-opened_place places s i peer true true is q = same_place places s _ is q
-opened_place places s i peer true false is q = same_place places s _ is q
-opened_place places s i peer false false is q = same_place places s _ is q
-opened_place places s i peer false true is q = rw is refl
+opened_place places s i peer true true opens told stays is q = rw told (same_place places s _ is q)
+opened_place places s i peer true false opens told stays is q = absurd (true≢false (sym (stays refl)))
+opened_place places s i peer false false opens told stays is q = rw told (same_place places s _ is q)
+opened_place places s i peer false true opens told stays is q = rw (told, is) refl
 
 -- ---- one tunnel is put, and one place
 
@@ -454,7 +455,7 @@ module _ (x : End) (ok : LooksAreTrue x) where
       let lt = ok.sessions m.session _ seen in
       let ids : y.session_ids ≡ x.session_ids = ap (λ (e : End). e.session_ids) h.after in
       let state = up_state _ h.row in
-      call_put y m.tunnel h.tunnel _ _ m.session (with_link (begun_link h.magic) (with_numbers m.sequenced (advanced x.role call_event.IccnAcc moment h.call))) (record {
+      call_put y m.tunnel h.tunnel _ _ m.session (with_link (new_link (record { moment = moment; block = h.block })) (with_numbers m.sequenced (advanced x.role call_event.IccnAcc moment h.call))) (record {
         tunnels = ap (λ (e : End). e.tunnels) h.after;
         there = h.there;
         peer = refl;
@@ -515,20 +516,21 @@ module _ (x : End) (ok : LooksAreTrue x) where
       let lt = ok.sessions m.session _ seen in
       let ids : y.session_ids ≡ x.session_ids = ap (λ (e : End). e.session_ids) h.after in
       let state = up_state h.call.state h.up in
-      let v = lcp_after h.calls.by h.calls.link.lcp in
+      let v = turn_at h.calls.by h.calls.link in
+      let tells = each_tells_opening h.calls.by.env h.calls.by.call h.calls.link in
       let seen_so : at x.calls m.session ≡ Some (record { tunnel = m.tunnel; look = look_by h.calls.link.network m.tunnel h.tunnel.control.peer }) =
       seen ∙ rw (state, h.calls.has) refl in
       let places = ap (λ (e : End). e.calls) h.after in
-      call_put y m.tunnel h.tunnel _ _ m.session (with_link (link_after h.calls.link v) h.call) (record {
+      call_put y m.tunnel h.tunnel _ _ m.session (with_link v.link h.call) (record {
         tunnels = ap (λ (e : End). e.tunnels) h.after;
         there = h.there;
         peer = refl;
         only = one_tunnel m.tunnel h.tunnel h.there m.session h.call h.live;
         calls = λ q. same_places y.calls _ places q
-            ∙ (opened_place x.calls m.session m.tunnel h.tunnel.control.peer h.calls.link.network v.out.up seen_so q ∙ rw state refl);
+            ∙ (opened_place x.calls m.session m.tunnel h.tunnel.control.peer h.calls.link.network v.link.network v.opens tells.told tells.stays seen_so q ∙ rw state refl);
         ids = ap (λ (e : End). e.tunnel_ids) h.after;
         role = ap (λ (e : End). e.role) h.after;
-        fits = linked_fits x.role h.call.state h.call.link h.calls.link (link_after h.calls.link v) h.calls.has state
+        fits = linked_fits x.role h.call.state h.call.link h.calls.link v.link h.calls.has state
             (ok.links m.tunnel h.tunnel h.there m.session h.call h.live);
         drawn = rw ids lt;
         rises = rw ids (omega arith);
@@ -633,7 +635,7 @@ module _ (x : End) (ok : AreOrdered x) where
   does_order moment ev (move.Negotiated m) y h =
       tunnel_put y m.tunnel _ (ascends-put m.session _ h.tunnel.calls (ok.calls m.tunnel h.tunnel h.there)) (ap (λ (e : End). e.tunnels) h.after)
       (subst (λ (e : End). Ascends e.calls) (sym h.after)
-      (ascends_looks (looks_of (is_first_open h.calls.link (lcp_after h.calls.by h.calls.link.lcp).out) m.session) x.calls ok.places))
+      (ascends_looks (looks_of (turn_at h.calls.by h.calls.link).opens m.session) x.calls ok.places))
   does_order moment ev (move.Counted m) y h =
       tunnel_put y m.tunnel _ (ascends-put m.session _ h.tunnel.calls (ok.calls m.tunnel h.tunnel h.there)) (ap (λ (e : End). e.tunnels) h.after)
       (looks_stay_so y (ap (λ (e : End). e.calls) h.after))

@@ -34,17 +34,17 @@ use Rattle.call_fsm.specs.declared.table.CallAction.{CallAction}
 use Rattle.call_fsm.specs.declared.table.CallAction.TheVariants as call_action
 use Rattle.end_model.specs.declared.tunnel.Call.{Call}
 use Rattle.end_model.specs.declared.tunnel.Config.{Config}
-use Rattle.end_model.specs.declared.tunnel.Link.{Link}
 use Rattle.session_looks.specs.declared.look.CellChange.TheVariants as cell
 use Rattle.session_looks.specs.Frames.{header_why}
 use Rattle.end_names.specs.declared.role.Role.{Role}
 use Rattle.end_names.specs.Names.{subscriber}
-use Rattle.lcp_end.specs.Steps.{Turn as LcpTurn, is_due}
+use Rattle.call_link.specs.declared.turn.LinkTurn.{LinkTurn}
+use Rattle.call_link.specs.Link.{Link, is_due}
 use Rattle.end_model.specs.declared.event.Event.{Event}
 use Rattle.end_model.specs.declared.event.Event.TheVariants.{Datagram, Ring, Payload, Lower, Lcp, Hang, OpenTunnel, DropCall, CloseTunnel, Tick, Admitted, Frame}
 use Rattle.end_model.specs.declared.out.Out.TheVariants.{Gone, Cause as Refused}
 use Rattle.end_model.specs.Reading.{body_of, message_in, CallFault, call_fault_in, TunnelFault, tunnel_fault_in}
-use Rattle.end_model.specs.Calls.{row_for, row_of_none, is_set_up, is_connection, is_up, is_clean_up}
+use Rattle.end_model.specs.Calls.{counted_all, row_for, row_of_none, is_set_up, is_connection, is_up, is_clean_up}
 use Rattle.end_model.specs.Tunnels.{Turn}
 use Rattle.end_model.specs.Stopping.{rejects, rejected, shuts, closed_told, closes_tunnel, closed_by, shuts_by}
 use Rattle.end_model.specs.Messages.{connected_reason, connected_event, event_by, opening_reason, Told, tells_id, told_by}
@@ -60,13 +60,13 @@ use Rattle.end_model.specs.Faulty.{faulty_at, faulty, in_faulty_call}
 use Rattle.end_model.specs.Closing.{closes, ends_by, end_silent, end_told}
 use Rattle.end_model.specs.Connecting.{first_up_by, second_up_by, end_heard, end_heard_by, ends_named}
 use Rattle.end_model.specs.Ticking.{greets, limits_at, limits_all, goes_quietly, clears, ticks_by, ticks}
-use Rattle.end_model.specs.Linking.{links, hears_link, hears_lcp, ticks_link}
+use Rattle.end_model.specs.Linking.{sends_frames, ends_linked, links_by, hears_link, hears_lcp, ticks_link}
 use Rattle.end_model.specs.Events.{turns}
 use Rattle.step_laws.specs.Gone.{gone_of_output}
 use Rattle.step_laws.specs.Letters.{Among}
 use Rattle.step_laws.proofs.Lists.{branch}
 use Rattle.step_laws.proofs.Distinct.{AreDistinct, among_either, distinct_append, distinct_ids, among_there}
-use Rattle.step_laws.proofs.Untold.{killed_by, TellsIn, dropped, caused, settled, opens_still, first_still, connects_still, confirms_still, plain_still, read_still, ignored, replies_still, refuses_still, no_call_still, first_up_still, carries_still, negotiated_still, linked_up_still, rings_still, repeated_still, greets_still}
+use Rattle.step_laws.proofs.Untold.{killed_by, TellsIn, dropped, caused, settled, opens_still, first_still, connects_still, confirms_still, plain_still, read_still, ignored, replies_still, refuses_still, no_call_still, first_up_still, carries_still, frames_still, negotiated_still, linked_up_still, rings_still, repeated_still, greets_still}
 
 -- ---- one call ends, or all of them
 
@@ -124,25 +124,26 @@ module _ (g : List ℕ) (s : ℕ) where
       (λ small. by_ends r.cause r.result r.error c a (takes_plain t) (plain_still g t h))
       (λ big. inl (plain_still g t h))
 
-  links_ends : (role : Role) (letters : List Letter) (c : Call) (l : Link) (v : LcpTurn) (t : Turn) → TellsIn g t → Ends g s (links role letters s c l v t)
-  unfolding links
-  links_ends role letters c l v t h =
-      branch (Ends g s) v.out.finished _ _
-      (λ done. settled_ends false letters _ (by_ends cause.Lcp 3 None c (row_for role c call_event.Close).1 t h))
-      (λ no. inl (negotiated_still g s c l v t h))
+  links_ends : (role : Role) (letters : List Letter) (c : Call) (v : LinkTurn) (o : Option Cause) (t : Turn) → TellsIn g t
+      → Ends g s (links_by role letters s c v o t)
+  unfolding links_by ends_linked
+  links_ends role letters c v None t h = inl (negotiated_still g s c v t h)
+  links_ends role letters c v (Some for) t h =
+      settled_ends false letters _
+      (by_ends for 3 None (counted_all v.frames c) (row_for role c call_event.Close).1 (sends_frames s v.frames c t) (frames_still g s v.frames c t h))
 
   hears_link_ends : (role : Role) (letters : List Letter) (frame : List ℕ) (c : Call) (o : Option Link) (t : Turn) → TellsIn g t
       → Ends g s (hears_link role letters s frame c o t)
   unfolding hears_link
   hears_link_ends role letters frame c None t h = inl (dropped g why.Closed t h)
-  hears_link_ends role letters frame c (Some l) t h = links_ends role letters c l _ t h
+  hears_link_ends role letters frame c (Some l) t h = links_ends role letters c _ _ t h
 
   ticks_link_ends : (role : Role) (letters : List Letter) (c : Call) (o : Option Link) (t : Turn) → TellsIn g t → Ends g s (ticks_link role letters s c o t)
   unfolding ticks_link
   ticks_link_ends role letters c None t h = inl h
   ticks_link_ends role letters c (Some l) t h =
-      branch (Ends g s) (nat_lt s 65536 && is_up c.state && is_due t.on.moment l.lcp) _ _
-      (λ due. links_ends role letters c l _ t h)
+      branch (Ends g s) (nat_lt s 65536 && is_up c.state && is_due t.on.moment l) _ _
+      (λ due. links_ends role letters c _ _ t h)
       (λ no. inl h)
 
   end_heard_ends : (booked : Bool) (t : Turn) → TellsIn g t → Ends g s (end_heard s booked t)
@@ -312,7 +313,7 @@ module _ (calls : List (ℕ × Call)) where
       (λ is. faulty_parts role session k.kind k.cause k.session t h)
       (λ other. parts_none _ (ignored [] why.Session t h))
 
-  -- ---- LCP
+  -- ---- links
 
   hears_lcp_parts : (role : Role) (letters : List Letter) (s : ℕ) (frame : List ℕ) (o : Option Call) (t : Turn) → at calls s ≡ o → TellsIn [] t
       → Parts (hears_lcp role letters s frame o t)

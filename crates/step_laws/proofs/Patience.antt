@@ -19,23 +19,23 @@ use Rattle.call_fsm.specs.declared.table.CallAction.TheVariants as call_action
 use Rattle.call_fsm.specs.declared.table.CallEvent.TheVariants as call_event
 use Rattle.call_fsm.specs.declared.table.CallState.{CallState}
 use Rattle.call_fsm.specs.declared.table.CallState.TheVariants as call_state
-use Rattle.lcp_end.specs.Laws.{Call as LcpCall, OnTick, after as lcp_after}
-use Rattle.lcp_end.specs.Steps.{is_due as lcp_is_due}
+use Rattle.call_link.specs.declared.turn.LinkTurn.{LinkTurn}
+use Rattle.call_link.specs.Link.{Link, is_due as link_is_due}
 use Rattle.end_model.specs.declared.tunnel.Call.{Call}
 use Rattle.end_model.specs.declared.tunnel.Control.{Control}
-use Rattle.end_model.specs.declared.tunnel.Link.{Link}
 use Rattle.end_names.specs.declared.role.Role.{Role}
 use Rattle.end_model.specs.declared.moves.Move.TheVariants as move
 use Rattle.end_model.specs.declared.out.Out.TheVariants.{Cause}
-use Rattle.end_model.specs.Calls.{row_for, is_set_up, is_up, is_told, is_clean_up}
+use Rattle.end_model.specs.Calls.{counted, counted_all, row_for, is_set_up, is_up, is_told, is_clean_up}
 use Rattle.end_model.specs.Tunnels.{Ground, Turn}
-use Rattle.end_model.specs.Turn.{with_output, with_move, with_change, ends_call, drops}
+use Rattle.end_model.specs.Turn.{with_output, with_move, with_change, with_call, ends_call, drops}
 use Rattle.end_model.specs.Events.{with_calls}
 use Rattle.end_model.specs.Sending.{gives, letter_in, sends_now, settles, repeats, sends_letter}
 use Rattle.end_model.specs.Channels.{has_room, place, next_place, counts_repeated}
 use Rattle.end_model.specs.Ticking.{greeted, greets, limits_at, limits_all, goes_quietly, clears, ticks_by, ticks}
 use Rattle.end_model.specs.Closing.{end_silent, end_told, ends_by}
-use Rattle.end_model.specs.Linking.{negotiated, links, ticks_link}
+use Rattle.end_model.specs.Frames.{sends_frame, counts, carried}
+use Rattle.end_model.specs.Linking.{sends_frames, negotiated, ends_linked, links_by, ticks_link}
 use Rattle.end_model.specs.Moments.{is_over, patience, is_at_its_end}
 use Rattle.step_laws.specs.Letters.{Among}
 use Rattle.step_laws.proofs.Lists.{branch, and_left, and_right, found_among, with_calls-more}
@@ -184,7 +184,7 @@ module _ (role : Role) (moment : ℕ) (calls : List (ℕ × Call)) where
         let g = keeps_leads u v (settled_keeps false letters u) l.leads.ok in
         record { leads = leads_on t u v l.leads g; past = past_on s u v g l.past }
 
-    -- ---- the LCP end of a call
+    -- ---- the link of a call
 
     -- one that is up isn't being set up
     not_both : (s : CallState) → is_set_up s ≡ true → is_up s ≡ true → ⊥
@@ -202,26 +202,6 @@ module _ (role : Role) (moment : ℕ) (calls : List (ℕ × Call)) where
           let same = the_call s c u l.ok is d there late.set_up in
           absurd (not_both c.state (ap (λ (x : Call). is_set_up x.state) (sym same) ∙ late.set_up) up);
     }
-
-    finished_by : (s : ℕ) (c : Call) (t : Turn) → Ticked t → (a : CallAction) → Leads t (ends_by cause.Lcp 3 None s c a t)
-    unfolding ends_by drops with_output
-    finished_by s c t h call_action.CleanUp = (silent s (is_up c.state) t h).leads
-    finished_by s c t h call_action.SendCdn =
-        branch (Leads t) (has_room t.control) _ _
-        (λ may. (told cause.Lcp 3 s c t h).leads)
-        (λ full. same_leads t (drops why.Queue t) (λ f. f) refl refl refl h)
-    finished_by s c t h call_action.Nothing = leads_nowhere t h
-    finished_by s c t h call_action.SendIcrq = leads_nowhere t h
-    finished_by s c t h call_action.SendIcrp = leads_nowhere t h
-    finished_by s c t h call_action.SendIccn = leads_nowhere t h
-    finished_by s c t h call_action.DropSession = leads_nowhere t h
-
-    finished : (s : ℕ) (c : Call) (t : Turn) → Ticked t
-        → Leads t (settles false letters (ends_by cause.Lcp 3 None s c (row_for role c call_event.Close).1 t))
-    finished s c t h =
-        let u = ends_by cause.Lcp 3 None s c (row_for role c call_event.Close).1 t in
-        let l = finished_by s c t h (row_for role c call_event.Close).1 in
-        leads_on t u _ l (keeps_leads u _ (settled_keeps false letters u) l.ok)
 
     -- a call that is up is put, in the same state
     puts : (s : ℕ) (d : Call) (t u : Turn) → is_up d.state ≡ true
@@ -243,16 +223,57 @@ module _ (role : Role) (moment : ℕ) (calls : List (ℕ × Call)) where
           state = ap (λ (x : Control). x.state) same;
         }
 
-    links_lead : (s : ℕ) (c : Call) (l : Link) (by : LcpCall) (t : Turn) → is_up c.state ≡ true → Ticked t
-        → Leads t (links role letters s c l (lcp_after by l.lcp) t)
-    unfolding links
-    links_lead s c l by t up h =
-        branch (Leads t) (lcp_after by l.lcp).out.finished _ _
-        (λ done. finished s c t h)
-        (λ no.
-        let is = negotiated_is s c l by t in
-        puts s (linked_call c l by) t (negotiated s c l (lcp_after by l.lcp) t) up
-        (negotiated_put calls s c l by t) (ap (λ (x : Turn). x.on.moment) is) (ap (λ (x : Turn). x.control) is) h)
+    -- frames that are sent in a call that is up
+    counts_lead : (s : ℕ) (frame : List ℕ) (c : Call) (o : Option ℕ) (t : Turn) → is_up c.state ≡ true → Ticked t
+        → Leads t (counts s c o (sends_frame s frame c t))
+    unfolding counts sends_frame with_output with_move with_call
+    counts_lead s frame c None t up h = same_leads t (counts s c None (sends_frame s frame c t)) (λ f. f) refl refl refl h
+    counts_lead s frame c (Some n) t up h =
+        puts s (counted c) t (counts s c (Some n) (sends_frame s frame c t)) up (with_calls-more t.changed s (Some (counted c)) calls) refl refl h
+
+    carried_lead : (s : ℕ) (frame : List ℕ) (c : Call) (t : Turn) → is_up c.state ≡ true → Ticked t → Leads t (carried s frame c t)
+    unfolding carried
+    carried_lead s frame c t up h = counts_lead s frame c c.sequence t up h
+
+    frames_lead : (s : ℕ) (fs : List (List ℕ)) (c : Call) (t : Turn) → is_up c.state ≡ true → Ticked t → Leads t (sends_frames s fs c t)
+    unfolding sends_frames
+    frames_lead s [] c t up h = leads_nowhere t h
+    frames_lead s (f ∷ fs) c t up h =
+        let l = carried_lead s f c t up h in leads_on t (carried s f c t) _ l (frames_lead s fs (counted c) (carried s f c t) up l.ok)
+
+    -- its link ends a call
+    ended_by : (for : CauseOf) (s : ℕ) (c : Call) (t : Turn) → Ticked t → (a : CallAction) → Leads t (ends_by for 3 None s c a t)
+    unfolding ends_by drops with_output
+    ended_by for s c t h call_action.CleanUp = (silent s (is_up c.state) t h).leads
+    ended_by for s c t h call_action.SendCdn =
+        branch (Leads t) (has_room t.control) _ _
+        (λ may. (told for 3 s c t h).leads)
+        (λ full. same_leads t (drops why.Queue t) (λ f. f) refl refl refl h)
+    ended_by for s c t h call_action.Nothing = leads_nowhere t h
+    ended_by for s c t h call_action.SendIcrq = leads_nowhere t h
+    ended_by for s c t h call_action.SendIcrp = leads_nowhere t h
+    ended_by for s c t h call_action.SendIccn = leads_nowhere t h
+    ended_by for s c t h call_action.DropSession = leads_nowhere t h
+
+    ended_lead : (s : ℕ) (c : Call) (v : LinkTurn) (for : CauseOf) (t : Turn) → is_up c.state ≡ true → Ticked t
+        → Leads t (ends_linked role letters s c v for t)
+    unfolding ends_linked
+    ended_lead s c v for t up h =
+        let sent = sends_frames s v.frames c t in
+        let d = counted_all v.frames c in
+        let u = ends_by for 3 None s d (row_for role c call_event.Close).1 sent in
+        let first = frames_lead s v.frames c t up h in
+        let l = ended_by for s d sent first.ok (row_for role c call_event.Close).1 in
+        leads_on t sent _ first (leads_on sent u _ l (keeps_leads u _ (settled_keeps false letters u) l.ok))
+
+    links_lead : (s : ℕ) (c : Call) (v : LinkTurn) (o : Option CauseOf) (t : Turn) → is_up c.state ≡ true → Ticked t
+        → Leads t (links_by role letters s c v o t)
+    unfolding links_by
+    links_lead s c v None t up h =
+        let is = negotiated_is s c v t in
+        puts s (linked_call c v) t (negotiated s c v t) up
+        (negotiated_put calls s c v t) (ap (λ (x : Turn). x.on.moment) is) (ap (λ (x : Turn). x.control) is) h
+    links_lead s c v (Some for) t up h = ended_lead s c v for t up h
 
     -- a call that is late is due
     is_due : (s : ℕ) (c : Call) (t : Turn) → Ticked t → IsDue role moment s c
@@ -278,10 +299,10 @@ module _ (role : Role) (moment : ℕ) (calls : List (ℕ × Call)) where
     unfolding ticks_link
     linked s c t h is early None has = early_ok s c t h is early
     linked s c t h is early (Some l) has =
-        branch (Limited s t) (nat_lt s 65536 && is_up c.state && lcp_is_due t.on.moment l.lcp) _ _
+        branch (Limited s t) (nat_lt s 65536 && is_up c.state && link_is_due t.on.moment l) _ _
         (λ due.
         let up = and_right (nat_lt s 65536) (is_up c.state) (and_left (nat_lt s 65536 && is_up c.state) _ due) in
-        up_limited s c t _ is up (links_lead s c l (OnTick t.on.moment) t up h))
+        up_limited s c t _ is up (links_lead s c _ _ t up h))
         (λ no. early_ok s c t h is early)
 
     limits_at_ok : (s : ℕ) (o : Option Call) (t : Turn) → at calls s ≡ o → Ticked t → Limited s t (limits_at role letters s o t)

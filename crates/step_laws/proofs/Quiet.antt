@@ -1,5 +1,5 @@
 -- A turn hands nothing up, one call at most is born in it, and Nr is read once at most.
-use Rattle.std.proofs.Common.{◌≡◌, inl, inr, ℕ, ◌+◌, ◌≤◌, Bool, true, false, zero, suc, List, [], ◌∷◌, ◌++◌, length, drop, refl, sym, ap, ◌∙◌, subst, Option, Some, None, Result, Ok, Err, arith}
+use Rattle.std.proofs.Common.{◌≡◌, inl, inr, ℕ, ◌+◌, ◌≤◌, Bool, true, false, zero, suc, List, [], ◌∷◌, ◌++◌, length, refl, sym, ap, ◌∙◌, subst, Option, Some, None, Result, Ok, Err, arith}
 use Rattle.std.proofs.lemmas.Grind.{flat_map-append}
 use Rattle.std.proofs.lemmas.List.{append-nil, length-append}
 use Rattle.std.specs.Prelude.{◌==◌, ◌&&◌, ◌||◌, nat_le, nat_lt, unwrap_or}
@@ -29,22 +29,22 @@ use Rattle.tunnel_fsm.specs.declared.table.TunnelEvent.TheVariants as event
 use Rattle.tunnel_fsm.specs.Rows.{rows, row_of, state_number}
 use Rattle.call_fsm.specs.declared.table.CallEvent.{CallEvent}
 use Rattle.call_fsm.specs.declared.table.CallEvent.TheVariants as call_event
-use Rattle.call_fsm.specs.declared.table.CallState.TheVariants as call
 use Rattle.call_fsm.specs.declared.table.CallAction.{CallAction}
 use Rattle.call_fsm.specs.declared.table.CallAction.TheVariants as call_action
 use Rattle.end_model.specs.declared.tunnel.Call.{Call}
 use Rattle.end_model.specs.declared.tunnel.Config.{Config}
-use Rattle.end_model.specs.declared.tunnel.Link.{Link}
 use Rattle.end_names.specs.declared.role.Role.{Role}
-use Rattle.lcp_end.specs.Steps.{Turn as LcpTurn, is_due, opened as link_opened, ticked, after_packet}
+use Rattle.call_link.specs.declared.turn.LinkTurn.{LinkTurn}
+use Rattle.call_link.specs.Link.{Link, new_link, is_due}
+use Rattle.call_link.specs.Turns.{Opens, Ticks, Hears, linked}
 use Rattle.end_model.specs.declared.out.Out.{Out}
 use Rattle.end_model.specs.declared.out.Out.TheVariants.{Gone, Drop, Cause as Refused}
 use Rattle.end_model.specs.declared.moves.Move.{Move}
 use Rattle.end_model.specs.declared.moves.Move.TheVariants as move
 use Rattle.end_model.specs.Reading.{message_in, CallFault, call_fault_in, TunnelFault, tunnel_fault_in}
-use Rattle.end_model.specs.Calls.{row_for, row_of_none, advanced, with_numbers, counted, is_set_up, is_request, is_connection, is_up, is_clean_up, is_short, is_long}
+use Rattle.end_model.specs.Calls.{row_for, row_of_none, advanced, with_numbers, counted, counted_all, is_set_up, is_request, is_connection, is_up, is_clean_up, is_short, is_long}
 use Rattle.end_model.specs.Tunnels.{Ground, Turn}
-use Rattle.end_model.specs.Links.{new_link, with_link, lcp_frame, is_passing}
+use Rattle.end_model.specs.Links.{link_env, with_link, is_passing}
 use Rattle.end_model.specs.Stopping.{rejects, rejected, shuts, closed_told, closes_tunnel, closed_by, shuts_by}
 use Rattle.end_model.specs.Messages.{connected_reason, connected_event, event_by, opening_reason, Told, tells_id, told_by}
 use Rattle.end_model.specs.Turn.{with_output, with_move, with_change, with_call, with_new, drops, ends_call, ends_all, with_looks_of}
@@ -62,7 +62,7 @@ use Rattle.end_model.specs.Closing.{closes, ends_by, end_silent, end_told}
 use Rattle.end_model.specs.Connecting.{first_up, first_up_by, second_up, second_up_by, end_heard, end_heard_by, ends_named, connects_call, linked_up}
 use Rattle.end_model.specs.Ticking.{greeted, greets, limits_at, limits_all, goes_quietly, clears, ticks_by, ticks}
 use Rattle.end_model.specs.Frames.{sends_frame, counts, carried, carries}
-use Rattle.end_model.specs.Linking.{sends_packets, negotiated, links, hears_link, hears_lcp, ticks_link}
+use Rattle.end_model.specs.Linking.{sends_frames, negotiated, ends_linked, links_by, hears_link, hears_lcp, ticks_link}
 use Rattle.step_laws.specs.Ups.{ups_of_output, ups_of_move, births_of_move, reads_of_move}
 use Rattle.step_laws.specs.Letters.{Among}
 use Rattle.step_laws.proofs.Lists.{all_push, branch}
@@ -465,39 +465,39 @@ module _ (F : ℕ → List ℕ → Type 0) (on : Ground) where
     unfolding carried sends_frame with_output with_move
     carried_quiet s frame c t so h = counts_quiet s c c.sequence (sends_frame s frame c t) (told _ refl (did _ refl refl refl so h))
 
-    -- these packets may be sent
+    -- these frames may be sent
     abbrev pub AreSo : ℕ → List (List ℕ) → Type 0
-    AreSo s ps = (p : List ℕ) → Among p ps → F s (lcp_frame p)
+    AreSo s fs = (f : List ℕ) → Among f fs → F s f
 
-    packets_quiet : (s : ℕ) (ps : List (List ℕ)) (c : Call) (t : Turn) → AreSo s ps → Quiet t → Quiet (sends_packets s ps c t)
-    unfolding sends_packets
-    packets_quiet s [] c t so h = h
-    packets_quiet s (p ∷ ps) c t so h =
-        packets_quiet s ps (counted c) (carried s (lcp_frame p) c t) (λ q a. so q (inr a)) (carried_quiet s (lcp_frame p) c t (so p (inl refl)) h)
+    frames_quiet : (s : ℕ) (fs : List (List ℕ)) (c : Call) (t : Turn) → AreSo s fs → Quiet t → Quiet (sends_frames s fs c t)
+    unfolding sends_frames
+    frames_quiet s [] c t so h = h
+    frames_quiet s (f ∷ fs) c t so h =
+        frames_quiet s fs (counted c) (carried s f c t) (λ q a. so q (inr a)) (carried_quiet s f c t (so f (inl refl)) h)
 
-    negotiated_quiet : (s : ℕ) (c : Call) (l : Link) (v : LcpTurn) (t : Turn) → AreSo s v.out.packets → Quiet t → Quiet (negotiated s c l v t)
+    negotiated_quiet : (s : ℕ) (c : Call) (v : LinkTurn) (t : Turn) → AreSo s v.frames → Quiet t → Quiet (negotiated s c v t)
     unfolding negotiated with_looks_of with_move with_call
-    negotiated_quiet s c l v t so h = did _ refl refl refl tt (packets_quiet s v.out.packets c t so h)
+    negotiated_quiet s c v t so h = did _ refl refl refl tt (frames_quiet s v.frames c t so h)
 
-    links_quiet : (role : Role) (letters : List Letter) (s : ℕ) (c : Call) (l : Link) (v : LcpTurn) (t : Turn) → AreSo s v.out.packets → Quiet t
-        → Quiet (links role letters s c l v t)
-    unfolding links
-    links_quiet role letters s c l v t so h =
-        branch Quiet v.out.finished _ _
-        (λ done. settled false letters _ (ends_quiet cause.Lcp 3 None s c (row_for role c call_event.Close).1 t h))
-        (λ no. negotiated_quiet s c l v t so h)
+    links_quiet : (role : Role) (letters : List Letter) (s : ℕ) (c : Call) (v : LinkTurn) (o : Option Cause) (t : Turn) → AreSo s v.frames → Quiet t
+        → Quiet (links_by role letters s c v o t)
+    unfolding links_by ends_linked
+    links_quiet role letters s c v None t so h = negotiated_quiet s c v t so h
+    links_quiet role letters s c v (Some for) t so h =
+        settled false letters _
+        (ends_quiet for 3 None s (counted_all v.frames c) (row_for role c call_event.Close).1 (sends_frames s v.frames c t) (frames_quiet s v.frames c t so h))
 
     hears_link_quiet : (role : Role) (letters : List Letter) (s : ℕ) (frame : List ℕ) (c : Call) (o : Option Link) (t : Turn)
-        → ((l : Link) → o ≡ Some l → AreSo s (after_packet (drop 2 frame) on.block on.moment l.lcp).out.packets) → Quiet t
+        → ((l : Link) → o ≡ Some l → AreSo s (linked (link_env on) (Hears frame) l).frames) → Quiet t
         → Quiet (hears_link role letters s frame c o t)
     unfolding hears_link
     hears_link_quiet role letters s frame c None t so h = dropped why.Closed t h
     hears_link_quiet role letters s frame c (Some l) t so h =
-        links_quiet role letters s c l _ t
-        (subst (λ (g : Ground). AreSo s (after_packet (drop 2 frame) g.block g.moment l.lcp).out.packets) (sym h.same) (so l refl)) h
+        links_quiet role letters s c _ _ t
+        (subst (λ (g : Ground). AreSo s (linked (link_env g) (Hears frame) l).frames) (sym h.same) (so l refl)) h
 
     pub hears_lcp_quiet : (role : Role) (letters : List Letter) (s : ℕ) (frame : List ℕ) (o : Option Call) (t : Turn)
-        → ((c : Call) (l : Link) → o ≡ Some c → c.link ≡ Some l → AreSo s (after_packet (drop 2 frame) on.block on.moment l.lcp).out.packets) → Quiet t
+        → ((c : Call) (l : Link) → o ≡ Some c → c.link ≡ Some l → AreSo s (linked (link_env on) (Hears frame) l).frames) → Quiet t
         → Quiet (hears_lcp role letters s frame o t)
     unfolding hears_lcp
     hears_lcp_quiet role letters s frame None t so h = dropped why.Call t h
@@ -507,13 +507,13 @@ module _ (F : ℕ → List ℕ → Type 0) (on : Ground) where
         (λ down. dropped why.Closed t h)
 
     ticks_link_quiet : (role : Role) (letters : List Letter) (s : ℕ) (c : Call) (o : Option Link) (t : Turn)
-        → ((l : Link) → o ≡ Some l → AreSo s (ticked on.moment l.lcp).out.packets) → Quiet t → Quiet (ticks_link role letters s c o t)
+        → ((l : Link) → o ≡ Some l → AreSo s (linked (link_env on) Ticks l).frames) → Quiet t → Quiet (ticks_link role letters s c o t)
     unfolding ticks_link
     ticks_link_quiet role letters s c None t so h = h
     ticks_link_quiet role letters s c (Some l) t so h =
-        branch Quiet (nat_lt s 65536 && is_up c.state && is_due t.on.moment l.lcp) _ _
-        (λ due. links_quiet role letters s c l _ t
-        (subst (λ (g : Ground). AreSo s (ticked g.moment l.lcp).out.packets) (sym h.same) (so l refl)) h)
+        branch Quiet (nat_lt s 65536 && is_up c.state && is_due t.on.moment l) _ _
+        (λ due. links_quiet role letters s c _ _ t
+        (subst (λ (g : Ground). AreSo s (linked (link_env g) Ticks l).frames) (sym h.same) (so l refl)) h)
         (λ no. h)
 
     -- ---- calls that are connected and end
@@ -522,19 +522,19 @@ module _ (F : ℕ → List ℕ → Type 0) (on : Ground) where
     unfolding second_up with_change with_move with_call takes_one
     second_up_quiet sequenced s d t h = did _ refl refl refl tt h
 
-    -- LCP may be opened in a call of these that is connected
+    -- the link may be opened of a call of these that is connected
     abbrev pub OpensSo : Role → ℕ → Option Call → Type 0
     OpensSo role s o = (c : Call) → o ≡ Some c → is_up (row_for role c call_event.IccnAcc).0 ≡ true
-        → AreSo s (link_opened on.moment (new_link on.block).lcp).out.packets
+        → AreSo s (linked (link_env on) Opens (new_link (link_env on))).frames
 
-    linked_up_quiet : (role : Role) (sequenced : Bool) (s : ℕ) (c : Call) (t : Turn) → AreSo s (link_opened on.moment (new_link on.block).lcp).out.packets → Quiet t
+    linked_up_quiet : (role : Role) (sequenced : Bool) (s : ℕ) (c : Call) (t : Turn) → AreSo s (linked (link_env on) Opens (new_link (link_env on))).frames → Quiet t
         → Quiet (linked_up role sequenced s c t)
     unfolding linked_up connects_call
     linked_up_quiet role sequenced s c t so h =
-        let l = new_link t.on.block in
+        let l = new_link (link_env t.on) in
         let d = with_link l (with_numbers sequenced (advanced role call_event.IccnAcc t.on.moment c)) in
-        negotiated_quiet s d l (link_opened t.on.moment l.lcp) (second_up sequenced s d t)
-        (subst (λ (g : Ground). AreSo s (link_opened g.moment (new_link g.block).lcp).out.packets) (sym h.same) so)
+        negotiated_quiet s d (linked (link_env t.on) Opens l) (second_up sequenced s d t)
+        (subst (λ (g : Ground). AreSo s (linked (link_env g) Opens (new_link (link_env g))).frames) (sym h.same) so)
         (second_up_quiet sequenced s d t h)
 
     second_up_by_quiet : (role : Role) (sequenced : Bool) (s : ℕ) (o : Option Call) (t : Turn) → OpensSo role s o → Quiet t
@@ -726,7 +726,7 @@ module _ (F : ℕ → List ℕ → Type 0) (on : Ground) where
 
     -- the LCP end of a call may have its timer
     abbrev pub TicksSo : ℕ → Option Call → Type 0
-    TicksSo s o = (c : Call) (l : Link) → o ≡ Some c → c.link ≡ Some l → AreSo s (ticked on.moment l.lcp).out.packets
+    TicksSo s o = (c : Call) (l : Link) → o ≡ Some c → c.link ≡ Some l → AreSo s (linked (link_env on) Ticks l).frames
 
     limits_at_quiet : (role : Role) (letters : List Letter) (s : ℕ) (o : Option Call) (t : Turn) → TicksSo s o → Quiet t → Quiet (limits_at role letters s o t)
     unfolding limits_at

@@ -12,7 +12,7 @@ use Rattle.end_model.specs.declared.event.Event.TheVariants.{Datagram, Payload, 
 use Rattle.end_model.specs.declared.moves.Move.TheVariants as move
 use Rattle.end_model.specs.declared.tunnel.Call.{Call}
 use Rattle.end_model.specs.declared.tunnel.CallPlace.{CallPlace}
-use Rattle.end_model.specs.declared.tunnel.Link.{Link}
+use Rattle.call_link.specs.Link.{Link}
 use Rattle.session_looks.specs.declared.look.Look.{Look}
 use Rattle.session_looks.specs.declared.look.Look.TheVariants as look
 use Rattle.end_names.specs.declared.role.Role.{Role}
@@ -69,9 +69,9 @@ module _ (e : End) (kept : AreKept e) (looks : LooksAreTrue e) (moment : ℕ) (b
         → ((s : ℕ) (frame : List ℕ) → x ≡ Lcp s frame → HearsLcp ev t.control.peer t.control.local s frame) → Allows F on e.role t.calls x
     allowed x gives ticks hears = record {
       given = gives;
-      opened = λ s c live up p a. AsItOpens t c (call_in s c live) up (record { packet = p; among = a; is = refl });
-      ticks = λ is s c l live has p a. AsTimePasses t c l (call_in s c live) has (ticks is) (record { packet = p; among = a; is = refl });
-      hears = λ s frame is c l live has p a. AsItHears t c l frame (call_in s c live) has (hears s frame is) (record { packet = p; among = a; is = refl });
+      opened = λ s c live up f a. AsItOpens t c (call_in s c live) up a;
+      ticks = λ is s c l live has f a. AsTimePasses t c l (call_in s c live) has (ticks is) a;
+      hears = λ s frame is c l live has f a. AsItHears t c l frame (call_in s c live) has (hears s frame is) a;
     }
 
   -- an event for a tunnel that is there

@@ -1,9 +1,8 @@
 -- A tunnel's tick is a chain of moves.
-use Rattle.std.proofs.Common.{◌≡◌, arith, ℕ, ◌+◌, ◌^◌, ◌<◌, ◌≤◌, Bool, true, false, cond, zero, suc, List, [], ◌∷◌, refl, sym, ap, ◌∙◌, subst, Option, Some, None}
+use Rattle.std.proofs.Common.{◌≡◌, arith, ℕ, ◌+◌, ◌^◌, ◌<◌, ◌≤◌, Bool, true, false, cond, List, [], ◌∷◌, refl, sym, ap, ◌∙◌, subst, Option, Some, None}
 use Rattle.std.proofs.lemmas.Bool.{eqb-true, ltb-true}
-use Rattle.std.proofs.lemmas.Bool.Decides.{nat_tests}
 use Rattle.std.proofs.lemmas.List.{append-nil}
-use Rattle.std.specs.Prelude.{◌==◌, ◌&&◌, ◌||◌, nat_le, nat_lt, length}
+use Rattle.std.specs.Prelude.{◌==◌, ◌&&◌, nat_lt}
 use Rattle.std.specs.List.{AllByRecursion}
 use Rattle.id_table.specs.Ids.{at, put-put, ids_of}
 use Rattle.id_table.specs.Order.{Ascends}
@@ -13,23 +12,26 @@ use Rattle.control_message.specs.declared.message.Message.TheVariants.{Hello}
 use Rattle.send_window.specs.declared.window.Tick.TheVariants as tick
 use Rattle.send_window.specs.Kept.{Window}
 use Rattle.send_window.specs.Window as sending
-use Rattle.control_channel.specs.Numbers.{Numbers, next_to_go, answer_to_tick, ticked_at}
+use Rattle.control_channel.specs.Numbers.{Numbers, answer_to_tick, ticked_at}
 use Rattle.tunnel_fsm.specs.Rows.{state_number}
 use Rattle.call_fsm.specs.declared.table.CallEvent.TheVariants as call_event
 use Rattle.end_model.specs.declared.tunnel.Call.{Call}
 use Rattle.end_model.specs.declared.tunnel.Control.{Control}
-use Rattle.end_model.specs.declared.tunnel.Link.{Link}
+use Rattle.call_link.specs.Link.{Link, is_due}
+use Rattle.call_link.specs.Turns.{Ticks}
+use Rattle.call_link.specs.Laws.{LinkStep, turn_at}
 use Rattle.end_model.specs.declared.event.Event.TheVariants.{Tick}
 use Rattle.end_model.specs.declared.moves.Move.TheVariants as move
 use Rattle.end_model.specs.Calls.{row_for, is_set_up, is_up}
 use Rattle.end_model.specs.Tunnels.{Tunnel, Turn}
-use Rattle.end_model.specs.Turn.{with_output, with_move}
+use Rattle.end_model.specs.Turn.{with_move}
 use Rattle.end_model.specs.Events.{with_calls, tunnel_after}
-use Rattle.end_model.specs.Channels.{has_room, place, next_place, letter_of, counts_given, counts_sent, counts_repeated}
-use Rattle.end_model.specs.Sending.{gives, letter_in, letters_after, sends_letter, sends_now, lets_go, goes_by, lets_all_go, repeats, acknowledges, outstanding, acknowledged_after, settles}
+use Rattle.end_model.specs.Channels.{has_room, place, next_place, letter_of, counts_repeated}
+use Rattle.end_model.specs.Sending.{gives, letter_in, letters_after, sends_now, repeats, settles}
 use Rattle.end_model.specs.Moments.{is_over, patience}
 use Rattle.end_model.specs.Ticking.{greeted, greets, limits_at, limits_all, goes_quietly}
 use Rattle.end_model.specs.Closing.{ends_by}
+use Rattle.end_model.specs.Links.{link_env}
 use Rattle.end_model.specs.Linking.{links, ticks_link}
 use Rattle.end_model.specs.End.{drawing_of, End}
 use Rattle.step_laws.specs.Moves.{TookTooLong, IsLate}
@@ -41,10 +43,8 @@ use Rattle.step_laws.proofs.Turns.{Held, given_held, at_turn, there, one_given, 
 use Rattle.step_laws.proofs.Settling.{Settled, outs_on, sent_ok, settled_ok}
 use Rattle.step_laws.proofs.Closing.{given_on, ends_leave}
 use Rattle.step_laws.proofs.Keeping.{sent_keeps, settled_keeps}
-use Rattle.step_laws.proofs.Linking.{IsLinked, links_leave}
+use Rattle.step_laws.proofs.Linking.{IsLinked, ended_stands, links_leave}
 use Rattle.step_laws.specs.Links.{ForTime}
-use Rattle.lcp_end.specs.Laws.{OnTick}
-use Rattle.lcp_end.specs.Steps.{is_due, ticked}
 
 -- ---- a letter that is repeated
 
@@ -252,24 +252,27 @@ module _ (e : End) (moment : ℕ) (letters : List Letter) (calls : List (ℕ × 
           others = λ q o. ap (λ xs. at (with_calls xs calls) q) (settled_keeps false letters u).changed ∙ l.others q o;
         }
 
-    -- the LCP end of a call has its timer
+    -- the link of a call has its timer
+    abbrev called_in : Turn → LinkStep
+    called_in t = record { env = link_env t.on; call = Ticks }
+
     timed : (s : ℕ) (c : Call) (l : Link) (t : Turn) → at calls s ≡ Some c → at (with_calls t.changed calls) s ≡ Some c → c.link ≡ Some l
-        → is_up c.state ≡ true → s < 65536 → Ticking t → Limited s t (links e.role letters s c l (ticked t.on.moment l.lcp) t)
+        → is_up c.state ≡ true → s < 65536 → Ticking t → Limited s t (links e.role letters s c (turn_at (called_in t) l) t)
     timed s c l t live found has up small h =
-        let by = OnTick t.on.moment in
+        let by = called_in t in
         let k : IsLinked e moment Tick letters calls i s c l by t =
-        record { found = found; has = has; up = up; called = ForTime refl (ap OnTick h.settled.stays.4) } in
+        record { found = found; has = has; up = up; at_moment = h.settled.stays.4; called = ForTime refl refl } in
         let left = links_leave e moment Tick letters calls i s c l by t k small
-        (λ done told. record {
+        (λ why ends told. ended_stands e moment Tick by l why ends (record {
           id = i;
           tunnel = begun;
           there = is_there;
           session = s;
           call = c;
           live = live;
-          finishes = record { calls = record { link = l; has = has; by = by; called = ForTime refl (ap OnTick h.settled.stays.4) }; finished = done };
+          ends = record { calls = record { link = l; has = has; by = by; at_moment = h.settled.stays.4; called = ForTime refl refl }; ends = ends };
           row = told;
-        }) h.settled in
+        })) h.settled in
         record {
           ok = record { settled = left.ok; none = record { ids = left.ids ∙ h.none.ids; added = left.added ∙ h.none.added } };
           others = left.others;
@@ -280,7 +283,7 @@ module _ (e : End) (moment : ℕ) (letters : List Letter) (calls : List (ℕ × 
     unfolding ticks_link
     linked s c t live found None has h = record { ok = h; others = λ q o. refl }
     linked s c t live found (Some l) has h =
-        branch (Limited s t) (nat_lt s 65536 && is_up c.state && is_due t.on.moment l.lcp) _ _
+        branch (Limited s t) (nat_lt s 65536 && is_up c.state && is_due t.on.moment l) _ _
         (λ due.
         let both = and_left (nat_lt s 65536 && is_up c.state) _ due in
         timed s c l t live found has (and_right (nat_lt s 65536) (is_up c.state) both) (ltb-true s 65536 (and_left (nat_lt s 65536) (is_up c.state) both)) h)

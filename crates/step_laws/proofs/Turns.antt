@@ -52,7 +52,7 @@ use Rattle.end_model.specs.Ringing.{requested, requests, requests_at, requests_a
 use Rattle.end_model.specs.Links.{with_link}
 use Rattle.end_model.specs.End.{End, placed, with_looks}
 use Rattle.step_laws.specs.Causes.{Stands}
-use Rattle.step_laws.specs.Links.{begun_link}
+use Rattle.call_link.specs.Link.{new_link}
 use Rattle.step_laws.specs.Moves.{IsRight, Chain, Came, IsNext, HearsNext, IsPlain, TellsNr, WhyRefused}
 use Rattle.step_laws.proofs.Granting.{grants_is}
 use Rattle.step_laws.proofs.States.{rung_asks}
@@ -520,15 +520,15 @@ module _ (e : End) (moment : ℕ) (ev : Event) (letters : List Letter) (calls : 
       }
 
   -- the call as it is connected, with its link
-  abbrev pub connected_call : Bool → ℕ → Call → Turn → Call
-  connected_call sequenced magic c t = with_link (begun_link magic) (with_numbers sequenced (advanced e.role call_event.IccnAcc t.on.moment c))
+  abbrev pub connected_call : Bool → List ℕ → Call → Turn → Call
+  connected_call sequenced block c t = with_link (new_link (record { moment = t.on.moment; block = block })) (with_numbers sequenced (advanced e.role call_event.IccnAcc t.on.moment c))
 
-  pub second_up_ok : (s speed framing magic : ℕ) (sequenced : Bool) (c : Call) (t : Turn) → state_number t.control.state ≡ 3
+  pub second_up_ok : (s speed framing : ℕ) (block : List ℕ) (sequenced : Bool) (c : Call) (t : Turn) → state_number t.control.state ≡ 3
       → at (with_calls t.changed calls) s ≡ Some c → HearsNext ev (tunnel_after t letters calls) s (Iccn speed framing sequenced)
       → is_up (row_for e.role c call_event.IccnAcc).0 ≡ true → may_take t.control (with_calls t.changed calls) ≡ true → TurnOk t
-      → TurnOk (second_up sequenced s (connected_call sequenced magic c t) t)
+      → TurnOk (second_up sequenced s (connected_call sequenced block c t) t)
   unfolding second_up with_change with_move with_call takes_one advanced
-  second_up_ok s speed framing magic sequenced c t is_open found hears row spare h =
+  second_up_ok s speed framing block sequenced c t is_open found hears row spare h =
       let m = move.SecondUp (record { tunnel = t.control.local; session = s; remote = c.remote; sequenced = sequenced; taken = taken_place t.control }) in
       let bind = cell.Bind s t.control.local t.control.peer in
       let places = placed t.control.local t.added e.calls in
@@ -546,9 +546,9 @@ module _ (e : End) (moment : ℕ) (ev : Event) (letters : List Letter) (calls : 
           takes = record { next = hears.next; taken_is = refl; spare = spare };
           says = hears.says;
           row = row;
-          magic = magic;
+          block = block;
           after =
-              let changed = with_calls-more t.changed s (Some (connected_call sequenced magic c t)) calls in
+              let changed = with_calls-more t.changed s (Some (connected_call sequenced block c t)) calls in
               let bound = with_looks-more t.changes bind places in
               rw (changed, bound, put-put e.tunnels t.control.local (tunnel_after t letters calls) _, h.stays.4) refl;
         });
@@ -558,7 +558,7 @@ module _ (e : End) (moment : ℕ) (ev : Event) (letters : List Letter) (calls : 
         stays = h.stays;
         held = h.held;
         fits =
-            let d = connected_call sequenced magic c t in
+            let d = connected_call sequenced block c t in
             fits_changed t.control t s (Some d) (fits_up t.control (with_calls t.changed calls) s d c found (up_owes _ row) spare h.fits);
       }
 

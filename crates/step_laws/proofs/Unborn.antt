@@ -14,12 +14,12 @@ use Rattle.call_fsm.specs.declared.table.CallAction.{CallAction}
 use Rattle.call_fsm.specs.declared.table.CallAction.TheVariants as call_action
 use Rattle.end_model.specs.declared.tunnel.Call.{Call}
 use Rattle.end_model.specs.declared.tunnel.Config.{Config}
-use Rattle.end_model.specs.declared.tunnel.Link.{Link}
 use Rattle.end_names.specs.declared.role.Role.{Role}
-use Rattle.lcp_end.specs.Steps.{Turn as LcpTurn, is_due}
+use Rattle.call_link.specs.declared.turn.LinkTurn.{LinkTurn}
+use Rattle.call_link.specs.Link.{Link, is_due}
 use Rattle.end_model.specs.declared.event.Event.TheVariants.{Tick}
 use Rattle.end_model.specs.declared.moves.Move.TheVariants as move
-use Rattle.end_model.specs.Calls.{row_for, is_set_up, is_up}
+use Rattle.end_model.specs.Calls.{counted_all, row_for, is_set_up, is_up}
 use Rattle.end_model.specs.Tunnels.{Turn}
 use Rattle.end_model.specs.Turn.{with_output, with_move, with_change, with_call, with_looks_of, drops, ends_call, ends_all}
 use Rattle.end_model.specs.Sending.{gives, letter_in, settles, sends_now, repeats}
@@ -27,11 +27,11 @@ use Rattle.end_model.specs.Channels.{has_room, place, counts_repeated}
 use Rattle.end_model.specs.Moments.{is_over, patience, is_at_its_end, is_open}
 use Rattle.end_model.specs.Closing.{ends_by, end_silent, end_told}
 use Rattle.end_model.specs.Ticking.{greeted, greets, limits_at, limits_all, goes_quietly, clears, ticks_by, ticks}
-use Rattle.end_model.specs.Linking.{negotiated, links, ticks_link}
+use Rattle.end_model.specs.Linking.{sends_frames, negotiated, ends_linked, links_by, ticks_link}
 use Rattle.end_model.specs.Events.{turns}
 use Rattle.step_laws.proofs.Lists.{branch}
 use Rattle.step_laws.proofs.Keeping.{sent_keeps, settled_keeps}
-use Rattle.step_laws.proofs.Linking.{packets_same}
+use Rattle.step_laws.proofs.Linking.{frames_same}
 
 module _ (ss : List ℕ) where
   -- these are the calls that a turn made
@@ -62,25 +62,29 @@ module _ (ss : List ℕ) where
   unfolding clears with_move
   cleared_made calls t h = all_made (ids_of calls) (with_move (move.Cleared t.control.local (is_open t.control.state)) t) h
 
-  -- ---- LCP
+  -- ---- links
 
-  negotiated_made : (s : ℕ) (c : Call) (l : Link) (v : LcpTurn) (t : Turn) → Made t → Made (negotiated s c l v t)
+  frames_made : (s : ℕ) (c : Call) (v : LinkTurn) (t : Turn) → Made t → Made (sends_frames s v.frames c t)
+  frames_made s c v t h = ap (λ (x : Turn). x.added) (frames_same s v.frames c t) ∙ h
+
+  negotiated_made : (s : ℕ) (c : Call) (v : LinkTurn) (t : Turn) → Made t → Made (negotiated s c v t)
   unfolding negotiated with_looks_of with_move with_call
-  negotiated_made s c l v t h = ap (λ (x : Turn). x.added) (packets_same s v.out.packets c t) ∙ h
+  negotiated_made s c v t h = frames_made s c v t h
 
-  links_made : (role : Role) (letters : List Letter) (s : ℕ) (c : Call) (l : Link) (v : LcpTurn) (t : Turn) → Made t → Made (links role letters s c l v t)
-  unfolding links
-  links_made role letters s c l v t h =
-      branch Made v.out.finished _ _
-      (λ done. settled_made false letters _ (by_made cause.Lcp 3 None s c (row_for role c call_event.Close).1 t h))
-      (λ no. negotiated_made s c l v t h)
+  links_made : (role : Role) (letters : List Letter) (s : ℕ) (c : Call) (v : LinkTurn) (o : Option Cause) (t : Turn) → Made t
+      → Made (links_by role letters s c v o t)
+  unfolding links_by ends_linked
+  links_made role letters s c v None t h = negotiated_made s c v t h
+  links_made role letters s c v (Some for) t h =
+      settled_made false letters _
+      (by_made for 3 None s (counted_all v.frames c) (row_for role c call_event.Close).1 (sends_frames s v.frames c t) (frames_made s c v t h))
 
   ticks_link_made : (role : Role) (letters : List Letter) (s : ℕ) (c : Call) (o : Option Link) (t : Turn) → Made t → Made (ticks_link role letters s c o t)
   unfolding ticks_link
   ticks_link_made role letters s c None t h = h
   ticks_link_made role letters s c (Some l) t h =
-      branch Made (nat_lt s 65536 && is_up c.state && is_due t.on.moment l.lcp) _ _
-      (λ due. links_made role letters s c l _ t h)
+      branch Made (nat_lt s 65536 && is_up c.state && is_due t.on.moment l) _ _
+      (λ due. links_made role letters s c _ _ t h)
       (λ no. h)
 
   -- ---- time

@@ -22,16 +22,17 @@ use Rattle.call_fsm.specs.declared.table.CallAction.{CallAction}
 use Rattle.call_fsm.specs.declared.table.CallAction.TheVariants as call_action
 use Rattle.end_model.specs.declared.tunnel.Call.{Call}
 use Rattle.end_model.specs.declared.tunnel.Config.{Config}
-use Rattle.end_model.specs.declared.tunnel.Link.{Link}
 use Rattle.session_looks.specs.declared.look.CellChange.{CellChange}
 use Rattle.session_looks.specs.declared.look.CellChange.TheVariants as cell
 use Rattle.end_names.specs.declared.role.Role.{Role}
-use Rattle.lcp_end.specs.Steps.{Turn as LcpTurn, opened as link_opened}
+use Rattle.call_link.specs.declared.turn.LinkTurn.{LinkTurn}
+use Rattle.call_link.specs.Link.{new_link}
+use Rattle.call_link.specs.Turns.{Opens, linked}
 use Rattle.end_model.specs.declared.out.Out.{Out}
 use Rattle.end_model.specs.declared.out.Out.TheVariants.{Drop, Cause as Refused}
 use Rattle.end_model.specs.Calls.{row_for, advanced, rung, with_numbers, counted, is_request, is_up, is_short, is_long, are_too_many}
 use Rattle.end_model.specs.Tunnels.{Turn}
-use Rattle.end_model.specs.Links.{new_link, with_link, lcp_frame, is_passing, is_first_open, looks_of}
+use Rattle.end_model.specs.Links.{link_env, with_link, is_passing, looks_of}
 use Rattle.end_model.specs.Messages.{Told, told_by}
 use Rattle.end_model.specs.Turn.{with_output, with_move, with_change, with_call, with_new, drops, with_looks_of}
 use Rattle.end_model.specs.Openings.{with_local, opened, opens_by, opens, accepted, accepts_by, accepts, connected, confirms}
@@ -46,7 +47,7 @@ use Rattle.end_model.specs.Refusing.{refused, refuses, of_no_call}
 use Rattle.end_model.specs.Connecting.{first_up, second_up, connects_call, linked_up}
 use Rattle.end_model.specs.Ticking.{greeted, greets}
 use Rattle.end_model.specs.Frames.{sends_frame, counts, carried, carries}
-use Rattle.end_model.specs.Linking.{sends_packets, negotiated}
+use Rattle.end_model.specs.Linking.{sends_frames, negotiated}
 use Rattle.step_laws.specs.Gone.{gone_of_output, gone_in}
 use Rattle.step_laws.proofs.Lists.{branch}
 
@@ -278,18 +279,18 @@ module _ (g : List ℕ) where
       (λ short. branch Still (is_long frame) _ _ (λ long. dropped why.Long t h) (λ long. carried_still s frame c t h)))
       (λ down. dropped why.Closed t h)
 
-  packets_still : (s : ℕ) (ps : List (List ℕ)) (c : Call) (t : Turn) → Still t → Still (sends_packets s ps c t)
-  unfolding sends_packets
-  packets_still s [] c t h = h
-  packets_still s (p ∷ ps) c t h = packets_still s ps (counted c) (carried s (lcp_frame p) c t) (carried_still s (lcp_frame p) c t h)
+  pub frames_still : (s : ℕ) (fs : List (List ℕ)) (c : Call) (t : Turn) → Still t → Still (sends_frames s fs c t)
+  unfolding sends_frames
+  frames_still s [] c t h = h
+  frames_still s (f ∷ fs) c t h = frames_still s fs (counted c) (carried s f c t) (carried_still s f c t h)
 
-  none_killed : (up : Bool) (s : ℕ) → flat_map killed_by (looks_of up s) ≡ []
+  none_killed : (opens : Bool) (s : ℕ) → flat_map killed_by (looks_of opens s) ≡ []
   none_killed true s = refl
   none_killed false s = refl
 
-  pub negotiated_still : (s : ℕ) (c : Call) (l : Link) (v : LcpTurn) (t : Turn) → Still t → Still (negotiated s c l v t)
+  pub negotiated_still : (s : ℕ) (c : Call) (v : LinkTurn) (t : Turn) → Still t → Still (negotiated s c v t)
   unfolding negotiated with_looks_of with_move with_call
-  negotiated_still s c l v t h = looked (looks_of (is_first_open l v.out) s) (none_killed (is_first_open l v.out) s) (packets_still s v.out.packets c t h)
+  negotiated_still s c v t h = looked (looks_of v.opens s) (none_killed v.opens s) (frames_still s v.frames c t h)
 
   second_up_still : (sequenced : Bool) (s : ℕ) (d : Call) (t : Turn) → Still t → Still (second_up sequenced s d t)
   unfolding second_up with_change with_move with_call takes_one
@@ -298,9 +299,9 @@ module _ (g : List ℕ) where
   pub linked_up_still : (role : Role) (sequenced : Bool) (s : ℕ) (c : Call) (t : Turn) → Still t → Still (linked_up role sequenced s c t)
   unfolding linked_up connects_call
   linked_up_still role sequenced s c t h =
-      let l = new_link t.on.block in
+      let l = new_link (link_env t.on) in
       let d = with_link l (with_numbers sequenced (advanced role call_event.IccnAcc t.on.moment c)) in
-      negotiated_still s d l (link_opened t.on.moment l.lcp) (second_up sequenced s d t) (second_up_still sequenced s d t h)
+      negotiated_still s d (linked (link_env t.on) Opens l) (second_up sequenced s d t) (second_up_still sequenced s d t h)
 
   -- ---- rings
 

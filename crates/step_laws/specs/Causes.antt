@@ -32,7 +32,7 @@ use Rattle.l2tp_header.specs.Reading.{header_of}
 use Rattle.end_model.specs.End.{End, plain_step}
 use Rattle.step_laws.specs.Letters.{Among}
 use Rattle.step_laws.specs.Moves.{has_all_tunnels, has_all_calls, may_take, IsIdInUse, IsRight, LacksSecret, IsUnknown, TookTooLong, Came, IsNext, HearsNext}
-use Rattle.step_laws.specs.Links.{Finishes}
+use Rattle.step_laws.specs.Links.{EndsCall}
 use Rattle.step_laws.specs.Faults.{TellsFault, IsOf, IsAboutCall, CantBeAnswered, IsEventOf}
 use Rattle.step_laws.specs.Steps.{AreKept}
 use Rattle.step_laws.specs.Room.{RingsOver, RingsNew}
@@ -111,17 +111,17 @@ pub data IsOutOfState (e : End) (ev : Event) (t : Tunnel) : Type 0 where
   ConnectedInVain : (speed framing s : ℕ) (sequenced : Bool) → CameAbout e ev t s (Iccn speed framing sequenced) → IsTold e t s call_event.IccnAcc
       → IsOutOfState e ev t
 
--- ---- LCP (RFC 1661)
+-- ---- links (RFC 1661)
 
--- the LCP end of a live call is finished, and its table has the peer told by a CDN
-pub record IsFinishedCall (e : End) (moment : ℕ) (ev : Event) : Type 0 where
+-- the link of a live call ends it for this cause, and its table has the peer told by a CDN
+pub record IsEndedCall (e : End) (moment : ℕ) (ev : Event) (why : CauseOf) : Type 0 where
   pub id : ℕ
   pub tunnel : Tunnel
   pub there : at e.tunnels id ≡ Some tunnel
   pub session : ℕ
   pub call : Call
   pub live : at tunnel.calls session ≡ Some call
-  pub finishes : Finishes ev moment tunnel.control session call
+  pub ends : EndsCall ev moment tunnel.control session call why
   pub row : is_told (row_for e.role call call_event.Close).1 ≡ true
 
 -- ---- tunnels that close
@@ -245,7 +245,7 @@ Stands e moment ev cause.Operator =
     ⊎ ((i : ℕ) × (t : Tunnel) × (ev ≡ CloseTunnel i) × (at e.tunnels i ≡ Some t) × IsClosedOn e t event.AdminClose)
 Stands e moment ev cause.Line = (s : ℕ) × (t : Tunnel) × (ev ≡ Hang s) × IsTold e t s call_event.LineDrop
 Stands e moment ev cause.Setup = IsLate e moment ev
-Stands e moment ev cause.Lcp = IsFinishedCall e moment ev
+Stands e moment ev cause.Lcp = IsEndedCall e moment ev cause.Lcp
 Stands e moment ev cause.Avp = CameClosing e ev cause.Avp
 Stands e moment ev cause.Value =
     CameFaulty e ev cause.Value ⊎ (CameClosing e ev cause.Value ⊎ CameFaultyOpening e ev cause.Value)

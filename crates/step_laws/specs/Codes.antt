@@ -1,5 +1,5 @@
 -- The codes of a CDN that ends a call, or refuses one, and of a StopCCN that closes a tunnel, have 16 bits.
-use Rattle.std.proofs.Common.{◌≡◌, ⊎_elim, ℕ, ◌<◌, List, Option, Some, None, Result, arith}
+use Rattle.std.proofs.Common.{◌≡◌, ℕ, ◌<◌, List, Option, Some, None, Result, arith}
 use Rattle.std.specs.Prelude.{IfSome}
 use Rattle.wire_base.specs.declared.cause.Cause.{Cause}
 use Rattle.wire_base.specs.declared.cause.Cause.TheVariants as cause
@@ -18,7 +18,7 @@ use Rattle.control_message.specs.declared.message.Opening.{Opening}
 use Rattle.tunnel_fsm.specs.declared.table.TunnelEvent.{TunnelEvent}
 use Rattle.end_model.specs.declared.moves.Closed.{Closed}
 use Rattle.end_model.specs.declared.moves.Declined.{Declined}
-use Rattle.step_laws.specs.Moves.{Came, DeniesCall, AsksItself, HasUsedId, HasAllCalls, HasNoSession, StandsAgainst, OtherVersion, Recovers, NoTunnel, Challenges, NoId, ClosesIn, HasOtherVersion, HasRecovery, HasOtherSecret, ClosesConnected, WronglyConnected, ComesUnawaited, IsUnawaited, WhyDeclined, AnOpening, AFaultyOpening, AnAnswer, LetterCloses, WhyCloses, ByOperator, ByLetter, BySccrq, BySccrp, ByScccn, ByFault, WhyEnds, IsLate, IsDropped, IsHungUp, IsFinished, IsAsked, IsReplied, IsConnected, HasFault, WhyRefused, IsNotGranted, IsOutgoing, IsReplyToNone, IsWrong}
+use Rattle.step_laws.specs.Moves.{Came, DeniesCall, AsksItself, HasUsedId, HasAllCalls, HasNoSession, StandsAgainst, OtherVersion, Recovers, NoTunnel, Challenges, NoId, ClosesIn, HasOtherVersion, HasRecovery, HasOtherSecret, ClosesConnected, WronglyConnected, ComesUnawaited, IsUnawaited, WhyDeclined, AnOpening, AFaultyOpening, AnAnswer, LetterCloses, WhyCloses, ByOperator, ByLetter, BySccrq, BySccrp, ByScccn, ByFault, WhyEnds, IsLate, IsDropped, IsHungUp, IsEnded, IsAsked, IsReplied, IsConnected, HasFault, WhyRefused, IsNotGranted, IsOutgoing, IsReplyToNone, IsWrong}
 
 -- 16 bits each
 abbrev pub CodesFit : ℕ → Option ℕ → Type 0
@@ -70,7 +70,7 @@ denied_fits e t remote result error (HasNoSession lns free few y none r x) = fit
 pub codes_fit : (e : End) (t : Tunnel) (ev : Event) (moment session : ℕ) (c : Call) (on : CallEvent) (result : ℕ) (error : Option ℕ)
     → WhyEnds e t ev moment session c on result error → CodesFit result error
 codes_fit e t ev moment session c on result error (IsLate late at_ r x) = fits result error 10 None (omega arith, tt) r x
-codes_fit e t ev moment session c on result error (IsFinished done at_ r x) = fits result error 3 None (omega arith, tt) r x
+codes_fit e t ev moment session c on result error (IsEnded why done at_ r x) = fits result error 3 None (omega arith, tt) r x
 codes_fit e t ev moment session c on result error (IsDropped is at_ r x) = fits result error 3 None (omega arith, tt) r x
 codes_fit e t ev moment session c on result error (IsHungUp is at_ r x) = fits result error 1 None (omega arith, tt) r x
 codes_fit e t ev moment session c on result error (IsAsked remote serial calling came at_ r x) =

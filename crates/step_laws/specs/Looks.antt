@@ -7,7 +7,7 @@ use Rattle.end_model.specs.declared.event.Event.{Event}
 use Rattle.end_model.specs.declared.tunnel.Call.{Call}
 use Rattle.end_model.specs.declared.tunnel.CallPlace.{CallPlace}
 use Rattle.end_model.specs.declared.tunnel.Config.{Config}
-use Rattle.end_model.specs.declared.tunnel.Link.{Link}
+use Rattle.call_link.specs.Link.{Link}
 use Rattle.session_looks.specs.declared.look.Look.{Look}
 use Rattle.session_looks.specs.declared.look.Look.TheVariants as look
 use Rattle.end_names.specs.declared.role.Role.{Role}

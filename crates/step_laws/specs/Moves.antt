@@ -75,11 +75,13 @@ use Rattle.end_model.specs.Messages.{flags_of, opening_of, request_of, connectio
 use Rattle.end_model.specs.Asking.{session_named}
 use Rattle.end_model.specs.Reasons.{fault_error}
 use Rattle.end_model.specs.Moments.{is_closed, is_open}
-use Rattle.end_model.specs.Links.{with_link, link_after, is_first_open, looks_of}
+use Rattle.end_model.specs.Links.{with_link, looks_of}
 use Rattle.step_laws.specs.Failing.{HasFailed}
 pub use Rattle.step_laws.specs.Links.{HearsFrame}
-use Rattle.step_laws.specs.Links.{begun_link, Calls, Finishes, WhySent, Passes}
-use Rattle.lcp_end.specs.Laws.{after as lcp_after}
+use Rattle.wire_base.specs.declared.cause.Cause.{Cause}
+use Rattle.step_laws.specs.Links.{Calls, EndsCall, WhySent, Passes}
+use Rattle.call_link.specs.Link.{new_link}
+use Rattle.call_link.specs.Laws.{turn_at}
 use Rattle.end_model.specs.End.{End, new_place, with_look, with_looks}
 
 -- ---- how much there may be
@@ -323,11 +325,11 @@ pub record ComesUpSecond (e : End) (moment : ℕ) (ev : Event) (m : SecondUp) (x
   pub takes : Taking ev tunnel letter m.taken
   pub says : Says letter m.session (Iccn speed framing m.sequenced)
   pub row : is_up (row_for e.role call call_event.IccnAcc).0 ≡ true
-  -- its LCP end asks for some magic number; its data messages have numbers where the letter asks for them
-  pub magic : ℕ
+  -- its link begins with some random block; its data messages have numbers where the letter asks for them
+  pub block : List ℕ
   pub after : x ≡ record (with_tunnel e m.tunnel (record tunnel {
     control = counts_taken tunnel.control;
-    calls = put tunnel.calls m.session (with_link (begun_link magic) (with_numbers m.sequenced (advanced e.role call_event.IccnAcc moment call)));
+    calls = put tunnel.calls m.session (with_link (new_link (record { moment = moment; block = block })) (with_numbers m.sequenced (advanced e.role call_event.IccnAcc moment call)));
   })) { calls = with_look (cell.Bind m.session m.tunnel tunnel.control.peer) e.calls }
 
 -- the call isn't there any more, and its look is dead
@@ -360,8 +362,9 @@ pub data WhyEnds (e : End) (t : Tunnel) (ev : Event) (moment session : ℕ) (c :
       → WhyEnds e t ev moment session c on result error
   IsConnected : (speed framing : ℕ) (sequenced : Bool) → InTunnel ev t.control session (Iccn speed framing sequenced)
       → on ≡ call_event.IccnAcc → result ≡ 2 → error ≡ Some 5 → WhyEnds e t ev moment session c on result error
-  -- its LCP end is finished
-  IsFinished : Finishes ev moment t.control session c → on ≡ call_event.Close → result ≡ 3 → error ≡ None → WhyEnds e t ev moment session c on result error
+  -- its link ends it
+  IsEnded : (why : Cause) → EndsCall ev moment t.control session c why → on ≡ call_event.Close → result ≡ 3 → error ≡ None
+      → WhyEnds e t ev moment session c on result error
   -- a message about it has a fault
   HasFault : (header : ℕ) (f : CallFault) → IsFaulty ev t.control header f → on ≡ fault_event f.kind → result ≡ 2 → error ≡ Some (fault_error f.cause)
       → WhyEnds e t ev moment session c on result error
@@ -664,7 +667,7 @@ pub record IsQuiet (e : End) (i : ℕ) (x : End) : Type 0 where
   pub there : at e.tunnels i ≡ Some tunnel
   pub after : x ≡ e
 
--- the LCP end of a call makes a step that doesn't finish it; where it was open for the first time in the call, all frames pass
+-- the link of a call is called, and the call keeps it; where frames of the network begin to pass, all frames do
 pub record Negotiates (e : End) (moment : ℕ) (ev : Event) (m : Negotiated) (x : End) : Type 0 where
   pub tunnel : Tunnel
   pub there : at e.tunnels m.tunnel ≡ Some tunnel
@@ -673,8 +676,8 @@ pub record Negotiates (e : End) (moment : ℕ) (ev : Event) (m : Negotiated) (x 
   pub up : is_up call.state ≡ true
   pub calls : Calls ev moment tunnel.control m.session call
   pub after : x ≡ record (with_tunnel e m.tunnel (record tunnel {
-    calls = put tunnel.calls m.session (with_link (link_after calls.link (lcp_after calls.by calls.link.lcp)) call);
-  })) { calls = with_looks (looks_of (is_first_open calls.link (lcp_after calls.by calls.link.lcp).out) m.session) e.calls }
+    calls = put tunnel.calls m.session (with_link (turn_at calls.by calls.link).link call);
+  })) { calls = with_looks (looks_of (turn_at calls.by calls.link).opens m.session) e.calls }
 
 -- a call whose data messages have numbers has the next one
 pub record Counts (e : End) (m : Counted) (x : End) : Type 0 where

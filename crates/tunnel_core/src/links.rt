@@ -1,116 +1,36 @@
-//! LCP in calls (RFC 1661): an LNS's call has an LCP end from its connection on. Its packets go to the tunnel's peer, and the
-//! call ends where it is finished.
+//! The links of calls (RFC 1661): an LNS's call has one from its connection on. Its frames go to the tunnel's peer, and the call ends
+//! where the link says so.
 
-ghost use Rattle.std.specs.Prelude.{◌≡◌, OnOk, IfOk, drop};
+ghost use Rattle.std.specs.Prelude.{◌≡◌, OnOk, IfOk};
 ghost use Rattle.std.specs.Option.{option_copied};
-ghost use Rattle.lcp_end.specs.Steps.{opened, ticked, after_packet};
-ghost use Rattle.end_model.specs.Calls.{with_numbers, counted_all};
-ghost use Rattle.end_model.specs.Links.{magic_of, lcp_frame, new_link, with_link, link_after, is_first_open, looks_of};
+ghost use Rattle.call_link.specs.Turns.{Ticks, linked};
+ghost use Rattle.end_model.specs.Calls.{counted_all};
+ghost use Rattle.end_model.specs.Links.{link_env, with_link, looks_of};
 ghost use Rattle.end_model.specs.Turn.{with_looks_of};
-ghost use Rattle.end_model.specs.Linking.{sends_packets, negotiated, links, hears_link, hears_lcp, ticks_link};
+ghost use Rattle.end_model.specs.Linking.{sends_frames, negotiated, ends_linked, links, hears_link, hears_lcp, ticks_link};
 ghost use Rattle.end_model.specs.Connecting.{connects_call, linked_up, second_up};
 
 use crate::closing::{ADMINISTRATIVE, end_by};
 use crate::frames::send_frame;
 use crate::turn::Turn;
-use byteorder::{BigEndian, ByteOrder};
 use call_fsm::CallEvent;
-use end_model::{Call, Link, Move, Negotiated, Role, SecondUp};
-use lcp_end::{LcpEnd, LcpOut};
+use call_link::{Link, LinkEnv, LinkTurn};
+use end_model::{Call, Move, Negotiated, Role, SecondUp};
 use send_window::Letters;
 use session_looks::CellChange;
 use std::alloc::Global;
-use std::marker::Model;
 use tunnel_rules::{advanced, call_row, copy_call, first_number, number_after};
 use tunnel_timers::is_up;
 use wire_base::{Bytes, Cause, NoMemory, Why};
 
-/// What stands before an LCP packet in a PPP frame: the number of its protocol (RFC 1661 section 2).
-const LCP: [u8; 2] = [0xc0, 0x21];
-
-/// The LCP end of a call as a step leaves it, with what the step gave.
-#[derive(Drop)]
-struct LinkStep {
-    lcp: LcpEnd,
-    out: LcpOut,
-}
-
-impl Model for LinkStep {
-    ghost use Rattle.lcp_end.specs.Steps.{Turn};
-
-    ghost Value = { Turn };
-
-    ghost view = { λ s. record { kept = s.lcp; out = s.out } };
-}
-
-/// A step of an LCP end to which a packet came.
-fn step_on_packet(
-    alloc: Global,
-    packet: &[u8],
-    block: &[u8; 16],
-    moment: u64,
-    link: &Link,
-) -> Result<LinkStep, NoMemory>
-    ensures { IfOk result (λ s. s ≡ after_packet packet.now block.now moment link.now.lcp) }
+/// What a link is called with in this step.
+fn link_env(turn: &Turn) -> LinkEnv
+    ensures { result ≡ link_env turn.now.on }
 {
-    let mut lcp = link.lcp;
-    let mut out = LcpOut::new(alloc);
-    lcp.on_packet(alloc, packet, block, moment, &mut out)?;
-    Ok(LinkStep { lcp, out })
-}
-
-/// A step of an LCP end as time passes.
-fn step_on_tick(alloc: Global, moment: u64, link: &Link) -> Result<LinkStep, NoMemory>
-    ensures { IfOk result (λ s. s ≡ ticked moment link.now.lcp) }
-{
-    let mut lcp = link.lcp;
-    let mut out = LcpOut::new(alloc);
-    lcp.on_tick(alloc, moment, &mut out)?;
-    Ok(LinkStep { lcp, out })
-}
-
-/// The first step of an LCP end: it is opened.
-fn step_on_open(alloc: Global, moment: u64, link: &Link) -> Result<LinkStep, NoMemory>
-    ensures { IfOk result (λ s. s ≡ opened moment link.now.lcp) }
-{
-    let mut lcp = link.lcp;
-    let mut out = LcpOut::new(alloc);
-    lcp.open_link(alloc, moment, &mut out)?;
-    Ok(LinkStep { lcp, out })
-}
-
-/// The magic number that a new LCP end asks for: the last four bytes of the random block.
-fn magic_of(block: &[u8; 16]) -> u32
-    ensures { result ≡ magic_of block.now }
-{
-    BigEndian::read_u32(&block[12..])
-}
-
-/// The link of a call that was connected, before LCP is opened.
-fn new_link(block: &[u8; 16]) -> Link
-    ensures { result ≡ new_link block.now }
-{
-    Link {
-        lcp: LcpEnd::new(magic_of(block)),
-        network: false,
+    LinkEnv {
+        moment: turn.moment,
+        block: turn.block,
     }
-}
-
-/// The link after a step of its LCP end: once LCP was open, frames of the network pass as long as the call lives.
-fn link_after(link: &Link, step: &LinkStep) -> Link
-    ensures { result ≡ link_after link.now step.now }
-{
-    Link {
-        lcp: step.lcp,
-        network: link.network || step.out.up,
-    }
-}
-
-/// Whether LCP is open for the first time in the call.
-fn is_first_open(link: &Link, out: &LcpOut) -> bool
-    ensures { result ≡ is_first_open link.now out.now }
-{
-    out.up && !link.network
 }
 
 /// A copy of a call, with this link.
@@ -122,102 +42,88 @@ fn with_link(alloc: Global, link: Link, call: &Call) -> Result<Call, NoMemory>
     Ok(linked)
 }
 
-/// An LCP packet as a PPP frame, from its protocol field on.
-fn lcp_frame(alloc: Global, packet: &[u8]) -> Result<Bytes, NoMemory>
-    ensures { IfOk result (λ f. f ≡ lcp_frame packet.now) }
-{
-    let mut frame = Bytes::from_slice(alloc, &LCP)?;
-    frame.push_slice(packet)?;
-    Ok(frame)
-}
-
-/// What stands behind the protocol field of a PPP frame.
-fn packet_in(frame: &[u8]) -> &[u8]
-    ensures { result.now ≡ drop 2 frame.now }
-{
-    &frame[frame.len().min(LCP.len())..]
-}
-
-/// Sends these LCP packets of a call to the tunnel's peer, in order. The call has the numbers behind theirs where its data messages
-/// have one.
-#[tactic(auto, unfolding(end_model::specs::Linking::sends_packets))]
-fn send_packets(
+/// Sends these frames of a call to the tunnel's peer, in order. The call has the numbers behind theirs where its data messages have
+/// one.
+#[tactic(auto, unfolding(end_model::specs::Linking::sends_frames))]
+fn send_frames(
     turn: &mut Turn,
     session: u16,
-    packets: &[Bytes],
+    frames: &[Bytes],
     call: &mut Call,
 ) -> Result<(), NoMemory>
-    ensures { OnOk result ((turn.new ≡ sends_packets session packets.now call.old turn.old) × (call.new ≡ counted_all packets.now call.old)) }
+    ensures { OnOk result ((turn.new ≡ sends_frames session frames.now call.old turn.old) × (call.new ≡ counted_all frames.now call.old)) }
 {
-    for packet in packets {
-        let frame = lcp_frame(turn.alloc, packet.as_slice())?;
+    for frame in frames {
         send_frame(turn, session, frame.as_slice(), call)?;
         call.sequence = number_after(call.sequence);
     }
     Ok(())
 }
 
-/// Where LCP is open for the first time in a call, all frames pass from now on.
+/// Where frames of the network begin to pass in a call, all frames pass from now on.
 #[tactic(auto, unfolding(end_model::specs::Turn::with_looks_of))]
-fn look_by(turn: &mut Turn, session: u16, first: bool) -> Result<(), NoMemory>
-    ensures { OnOk result (turn.new ≡ with_looks_of (looks_of first session) turn.old) }
+fn look_by(turn: &mut Turn, session: u16, opens: bool) -> Result<(), NoMemory>
+    ensures { OnOk result (turn.new ≡ with_looks_of (looks_of opens session) turn.old) }
 {
-    if first {
+    if opens {
         turn.changes.push(CellChange::Establish { session })?;
     }
     Ok(())
 }
 
-/// The call goes on with its LCP end as a step of it leaves it, and what the step gave is sent.
+/// The call goes on with its link as a call of it leaves it, and what that gave is sent.
 #[tactic(auto, unfolding(end_model::specs::Linking::negotiated))]
-fn negotiate(
-    turn: &mut Turn,
-    session: u16,
-    call: &Call,
-    link: &Link,
-    step: &LinkStep,
-) -> Result<(), NoMemory>
-    ensures { OnOk result (turn.new ≡ negotiated session call.now link.now step.now turn.old) }
+fn negotiate(turn: &mut Turn, session: u16, call: &Call, given: &LinkTurn) -> Result<(), NoMemory>
+    ensures { OnOk result (turn.new ≡ negotiated session call.now given.now turn.old) }
 {
     let tunnel = turn.control.local;
     let mut after = copy_call(turn.alloc, call)?;
-    send_packets(turn, session, step.out.packets.as_slice(), &mut after)?;
-    after.link = Some(link_after(link, step));
+    send_frames(turn, session, given.frames.as_slice(), &mut after)?;
+    after.link = Some(given.link);
     turn.change(session, after)?;
     turn.did(Move::Negotiated(Negotiated { tunnel, session }))?;
-    look_by(turn, session, is_first_open(link, &step.out))
+    look_by(turn, session, given.opens)
 }
 
-/// The LCP end of a call made a step: where it is finished, the call ends.
-#[tactic(auto, unfolding(end_model::specs::Linking::links))]
+/// The link of a call ends it, behind its frames.
+#[tactic(auto, unfolding(end_model::specs::Linking::ends_linked))]
+fn end_linked(
+    turn: &mut Turn,
+    role: Role,
+    letters: &Letters,
+    session: u16,
+    call: &Call,
+    given: &LinkTurn,
+    cause: Cause,
+) -> Result<(), NoMemory>
+    ensures { OnOk result (turn.new ≡ ends_linked role letters.now.letters session call.now given.now cause turn.old) }
+{
+    let mut after = copy_call(turn.alloc, call)?;
+    send_frames(turn, session, given.frames.as_slice(), &mut after)?;
+    let (_, action) = call_row(role, call.state, CallEvent::Close);
+    end_by(turn, cause, ADMINISTRATIVE, None, session, &after, action)?;
+    turn.settle(false, letters)
+}
+
+/// The link of a call was called: the call goes on, or ends.
+#[tactic(auto, unfolding(end_model::specs::Linking::links_by))]
 fn follow_link(
     turn: &mut Turn,
     role: Role,
     letters: &Letters,
     session: u16,
     call: &Call,
-    link: &Link,
-    step: &LinkStep,
+    given: &LinkTurn,
 ) -> Result<(), NoMemory>
-    ensures { OnOk result (turn.new ≡ links role letters.now.letters session call.now link.now step.now turn.old) }
+    ensures { OnOk result (turn.new ≡ links role letters.now.letters session call.now given.now turn.old) }
 {
-    if !step.out.finished {
-        return negotiate(turn, session, call, link, step);
+    match given.ends {
+        None => negotiate(turn, session, call, given),
+        Some(cause) => end_linked(turn, role, letters, session, call, given, cause),
     }
-    let (_, action) = call_row(role, call.state, CallEvent::Close);
-    end_by(
-        turn,
-        Cause::Lcp,
-        ADMINISTRATIVE,
-        None,
-        session,
-        call,
-        action,
-    )?;
-    turn.settle(false, letters)
 }
 
-/// An LCP packet came up a call.
+/// A frame for its link came up a call.
 #[tactic(auto, unfolding(end_model::specs::Linking::hears_link))]
 fn hear_link(
     turn: &mut Turn,
@@ -232,12 +138,12 @@ fn hear_link(
     let Some(link) = &call.link else {
         return turn.drop_with(Why::Closed);
     };
-    let packet = packet_in(frame);
-    let step = step_on_packet(turn.alloc, packet, &turn.block, turn.moment, link)?;
-    follow_link(turn, role, letters, session, call, link, &step)
+    let env = link_env(turn);
+    let given = link.hear(turn.alloc, &env, frame)?;
+    follow_link(turn, role, letters, session, call, &given)
 }
 
-/// An LCP packet came up a call, in a frame from its protocol field on.
+/// A frame for its link came up a call, from its protocol field on.
 #[tactic(auto, unfolding(end_model::specs::Linking::hears_lcp))]
 pub(crate) fn hear_lcp(
     turn: &mut Turn,
@@ -258,7 +164,7 @@ pub(crate) fn hear_lcp(
     hear_link(turn, role, letters, session, frame, call)
 }
 
-/// The timer of the LCP end of a call runs out.
+/// The timer of a call's link runs out.
 fn run_out(
     turn: &mut Turn,
     role: Role,
@@ -267,13 +173,14 @@ fn run_out(
     call: &Call,
     link: &Link,
 ) -> Result<(), NoMemory>
-    ensures { OnOk result (turn.new ≡ links role letters.now.letters session call.now link.now (ticked turn.old.on.moment link.now.lcp) turn.old) }
+    ensures { OnOk result (turn.new ≡ links role letters.now.letters session call.now (linked (link_env turn.old.on) Ticks link.now) turn.old) }
 {
-    let step = step_on_tick(turn.alloc, turn.moment, link)?;
-    follow_link(turn, role, letters, session, call, link, &step)
+    let env = link_env(turn);
+    let given = link.tick(turn.alloc, &env)?;
+    follow_link(turn, role, letters, session, call, &given)
 }
 
-/// Time passes for the LCP end of a call, where it has one. One that isn't due takes no memory.
+/// Time passes for the link of a call, where it has one. One that isn't due takes no memory.
 #[tactic(auto, unfolding(end_model::specs::Linking::ticks_link))]
 pub(crate) fn tick_link(
     turn: &mut Turn,
@@ -287,7 +194,7 @@ pub(crate) fn tick_link(
     let Some(link) = &call.link else {
         return Ok(());
     };
-    if !is_up(call.state) || !link.lcp.is_due(turn.moment) {
+    if !is_up(call.state) || !link.is_due(turn.moment) {
         return Ok(());
     }
     run_out(turn, role, letters, session, call, link)
@@ -318,7 +225,7 @@ fn second_up(turn: &mut Turn, sequenced: bool, session: u16, call: Call) -> Resu
     })
 }
 
-/// The call is connected, and LCP is opened in it.
+/// The call is connected, and its link is opened.
 #[tactic(auto, unfolding(end_model::specs::Connecting::connects_call))]
 fn open_link(
     turn: &mut Turn,
@@ -330,12 +237,13 @@ fn open_link(
     ensures { OnOk result (turn.new ≡ connects_call sequenced session (with_link link call.now) link turn.old) }
 {
     let linked = with_link(turn.alloc, link, call)?;
-    let step = step_on_open(turn.alloc, turn.moment, &link)?;
+    let env = link_env(turn);
+    let given = link.open(turn.alloc, &env)?;
     second_up(turn, sequenced, session, with_link(turn.alloc, link, call)?)?;
-    negotiate(turn, session, &linked, &link, &step)
+    negotiate(turn, session, &linked, &given)
 }
 
-/// The call is connected: it has a link from now on, in which LCP is opened, and its data messages have numbers where its ICCN had
+/// The call is connected: it has a link from now on, which is opened, and its data messages have numbers where its ICCN had
 /// Sequencing Required.
 #[tactic(auto, unfolding(end_model::specs::Connecting::linked_up))]
 pub(crate) fn link_up(
@@ -350,6 +258,6 @@ pub(crate) fn link_up(
     let event = CallEvent::IccnAcc;
     let mut up = advanced(turn.alloc, role, event, turn.moment, call, call.remote)?;
     up.sequence = first_number(sequenced);
-    let link = new_link(&turn.block);
+    let link = Link::new(&link_env(turn));
     open_link(turn, sequenced, session, &up, link)
 }

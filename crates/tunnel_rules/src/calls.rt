@@ -10,8 +10,9 @@ ghost use Rattle.end_model.specs.Messages.{request_of};
 ghost use Rattle.end_model.specs.Links.{is_passing};
 
 use call_fsm::{CallAction, CallEvent, CallState, lac_advance, lns_advance};
+use call_link::Link;
 use control_message::Message;
-use end_model::{Call, CallStep, CallSteps, Link, Role, calling_number, twelve_digits};
+use end_model::{Call, CallStep, CallSteps, Role, calling_number, twelve_digits};
 use id_source::IdError;
 use message_reading::Reason;
 use std::alloc::Global;
@@ -199,7 +200,7 @@ pub fn is_passing(link: &Option<Link>) -> bool
 {
     match link {
         None => true,
-        Some(link) => link.network,
+        Some(link) => link.is_open(),
     }
 }
 

@@ -3,10 +3,9 @@ use Rattle.std.specs.Prelude.{◌≡◌, ℕ, ◌+◌, ◌-◌, ◌^◌, ◌≤�
 use Rattle.id_table.specs.Ids.{at}
 use Rattle.send_window.specs.Window.{wait_after}
 use Rattle.control_channel.specs.Numbers.{Numbers}
-use Rattle.lcp_end.specs.Steps.{is_timed}
+use Rattle.call_link.specs.Link.{Link, due_of as link_due_of}
 use Rattle.end_model.specs.declared.tunnel.Call.{Call}
 use Rattle.end_model.specs.declared.tunnel.Control.{Control}
-use Rattle.end_model.specs.declared.tunnel.Link.{Link}
 use Rattle.end_model.specs.Moments.{patience, kept_closed, is_open, is_closed, is_being_set_up}
 use Rattle.end_model.specs.Calls.{is_up, is_set_up}
 use Rattle.end_model.specs.Tunnels.{Tunnel, Turn}
@@ -65,10 +64,10 @@ channel_due c = earlier (removal_due c) (earlier (repetition_due c.channel) (hel
 abbrev pub setup_due : ℕ → Call → Option ℕ
 setup_due s c = due_after (nat_lt s 65536 && is_set_up c.state) patience c.since
 
--- the timer of its LCP end
+-- the timer of its link
 abbrev pub link_due : ℕ → Call → Option Link → Option ℕ
 link_due s c None = None
-link_due s c (Some l) = due_after (nat_lt s 65536 && is_up c.state && is_timed l.lcp) 3000 l.lcp.since
+link_due s c (Some l) = if nat_lt s 65536 && is_up c.state then link_due_of l else None
 
 abbrev pub call_due : ℕ → Call → Option ℕ
 call_due s c = earlier (setup_due s c) (link_due s c c.link)

@@ -5,8 +5,9 @@ ghost use Rattle.std.specs.Prelude.{◌≡◌, option_copied};
 ghost use Rattle.tunnel_timers.specs.Due.{bound_of, due_after, removal_due, repetition_due, hello_due, channel_due, setup_due, link_due, call_due};
 
 use crate::limits::{KEPT_CLOSED, PATIENCE, is_being_set_up, is_closed, is_open, is_set_up, is_up};
+use call_link::Link;
 use control_channel::ChannelNumbers;
-use end_model::{Call, Control, Link};
+use end_model::{Call, Control};
 
 /// When a limit is over which began at a moment, where it runs.
 fn due_after(runs: bool, limit: u64, since: u64) -> u64
@@ -62,7 +63,7 @@ fn setup_due(session: u32, call: &Call) -> u64
     due_after(runs, PATIENCE, call.since)
 }
 
-/// When the timer of a call's LCP end runs out.
+/// When the timer of a call's link runs out.
 fn link_due(session: u32, call: &Call, link: Option<&Link>) -> u64
     ensures { result ≡ bound_of (link_due session call.now (option_copied link.entry)) }
 {
@@ -72,10 +73,10 @@ fn link_due(session: u32, call: &Call, link: Option<&Link>) -> u64
     if session >= 65_536 || !is_up(call.state) {
         return u64::MAX;
     }
-    link.lcp.due().unwrap_or(u64::MAX)
+    link.due().unwrap_or(u64::MAX)
 }
 
-/// When something is due for the call of a session: it isn't set up in time, or the timer of its LCP end runs out.
+/// When something is due for the call of a session: it isn't set up in time, or the timer of its link runs out.
 #[tactic(auto, using(crate::specs::Bounds::bound_earlier_is))]
 pub fn call_due(session: u32, call: &Call) -> u64
     ensures { result ≡ bound_of (call_due session call.now) }

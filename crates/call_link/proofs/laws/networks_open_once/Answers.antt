@@ -1,4 +1,5 @@
-use Rattle.call_link.proofs.Opening.{each_tells_opening, each_opens_once}
+use Rattle.call_link.specs.Told.{each_tells_opening}
+use Rattle.call_link.proofs.Opening.{each_opens_once}
 use Rattle.call_link.proofs.laws.networks_open_once.Goals as goal
 
 pub returns-clause-told : goal.returns-clause-told

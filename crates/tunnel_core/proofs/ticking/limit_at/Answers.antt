@@ -3,7 +3,7 @@ use Rattle.std.specs.Option.{option_copied}
 use Rattle.wire_base.specs.declared.letter.Letter.{Letter}
 use Rattle.end_names.specs.declared.role.Role.{Role}
 use Rattle.end_model.specs.declared.tunnel.Call.{Call}
-use Rattle.end_model.specs.declared.tunnel.Link.{Link}
+use Rattle.call_link.specs.Link.{Link}
 use Rattle.end_model.specs.Tunnels.{Turn}
 use Rattle.end_model.specs.Ticking.{limits_at}
 use Rattle.end_model.specs.Linking.{ticks_link}
