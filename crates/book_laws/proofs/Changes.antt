@@ -18,7 +18,7 @@ use Rattle.end_model.specs.Contents.{tunnel_down, call_down}
 use Rattle.end_model.specs.End.{End}
 use Rattle.end_model.specs.Moments.{is_open}
 use Rattle.end_model.specs.Tunnels.{Tunnel}
-use Rattle.step_laws.specs.Moves.{with_tunnel}
+use Rattle.step_laws.specs.Moves.{with_tunnel, new_tunnel}
 use Rattle.book_laws.specs.Books.{Mirrors, AreDrawn, booked_control, booked_call, tunnel_record, call_record, record_in, CallFits, TunnelFits, TablesFit, AreInPlace, book_after}
 use Rattle.book_laws.proofs.Lists.{put_most, put_there}
 use Rattle.book_laws.proofs.Views.{same_book, TunnelComes, tunnel_came, tunnel_fits, TunnelGoes, tunnel_went_fits, tunnel_went, CallComes, call_came, call_fits, CallGoes, call_went_fits, call_went}
@@ -177,10 +177,10 @@ module _ (e x : End) (k : Kept) (fit : TablesFit e) (drawn : AreDrawn e k) (book
 
   -- one is made
   pub tunnel_born : (i : ℕ) (c : Control) (ls : List Letter) → Grows e x → i ≡ e.tunnel_ids.next → i < x.tunnel_ids.next
-      → x.tunnels ≡ put e.tunnels i (record { control = c; letters = ls; calls = [] }) → length x.tunnels ≤ 1024 → is_open c.state ≡ false
+      → x.tunnels ≡ put e.tunnels i (record (new_tunnel c) { letters = ls }) → length x.tunnels ≤ 1024 → is_open c.state ≡ false
       → (state_number c.state ≡ 2 → 0 < c.remote) → 0 < peer_window c → GoesOn e x k []
   tunnel_born i c ls grows fresh later is few shut remote window =
-      let u : Tunnel = record { control = c; letters = ls; calls = [] } in
+      let u : Tunnel = record (new_tunnel c) { letters = ls } in
       let none = fresh_tunnel e fit i fresh in
       let some : 0 < i = (let first = fit.first_tunnel in omega (arith, first, fresh)) in
       record {
@@ -196,9 +196,9 @@ module _ (e x : End) (k : Kept) (fit : TablesFit e) (drawn : AreDrawn e k) (book
   -- ---- its calls
 
   module _ (i : ℕ) (t : Tunnel) (c : Control) (ls : List Letter) (s : ℕ) (new : Call) (there : at e.tunnels i ≡ Some t) (grows : Grows e x)
-      (is : x.tunnels ≡ put e.tunnels i (record { control = c; letters = ls; calls = put t.calls s new })) (same : SameControl t.control c) where
+      (is : x.tunnels ≡ put e.tunnels i (record t { control = c; letters = ls; calls = put t.calls s new })) (same : SameControl t.control c) where
     abbrev u : Tunnel
-    u = record { control = c; letters = ls; calls = put t.calls s new }
+    u = record t { control = c; letters = ls; calls = put t.calls s new }
 
     here : tunnel_record i (Some u) ≡ tunnel_record i (at e.tunnels i)
     here = same_record i t u same ∙ ap (tunnel_record i) (sym there)
@@ -304,9 +304,9 @@ module _ (e x : End) (k : Kept) (fit : TablesFit e) (drawn : AreDrawn e k) (book
   -- ---- one ends
 
   module _ (i : ℕ) (t : Tunnel) (c : Control) (ls : List Letter) (s : ℕ) (old : Call) (there : at e.tunnels i ≡ Some t) (live : at t.calls s ≡ Some old) (grows : Grows e x)
-      (is : x.tunnels ≡ put e.tunnels i (record { control = c; letters = ls; calls = without t.calls s })) (same : SameControl t.control c) where
+      (is : x.tunnels ≡ put e.tunnels i (record t { control = c; letters = ls; calls = without t.calls s })) (same : SameControl t.control c) where
     abbrev rest : Tunnel
-    rest = record { control = c; letters = ls; calls = without t.calls s }
+    rest = record t { control = c; letters = ls; calls = without t.calls s }
 
     left_fit : TablesFit x
     left_fit =
@@ -407,10 +407,10 @@ module _ (e x : End) (k : Kept) (fit : TablesFit e) (drawn : AreDrawn e k) (book
 
   -- it is closed
   pub tunnel_shuts : (i : ℕ) (t : Tunnel) (c : Control) (ls : List Letter) (booked : Bool) → at e.tunnels i ≡ Some t → Grows e x
-      → x.tunnels ≡ put e.tunnels i (record { control = c; letters = ls; calls = [] }) → state_number c.state ≡ 4 → 0 < peer_window c
+      → x.tunnels ≡ put e.tunnels i (record t { control = c; letters = ls; calls = [] }) → state_number c.state ≡ 4 → 0 < peer_window c
       → booked ≡ is_open t.control.state → GoesOn e x k (tunnel_down booked i)
   tunnel_shuts i t c ls booked there grows is four window established =
-      let u : Tunnel = record { control = c; letters = ls; calls = [] } in
+      let u : Tunnel = record t { control = c; letters = ls; calls = [] } in
       let old = fit.tunnels i t there in
       let shut : is_open c.state ≡ false = ap (λ n. n == 3) four in
       let later : i < x.tunnel_ids.next = (let lt = old.drawn in let le = grows.tunnels in omega (arith, lt, le)) in

@@ -12,6 +12,7 @@ use Rattle.end_model.specs.End.{End}
 use Rattle.end_model.specs.Tunnels.{Tunnel}
 use Rattle.book_laws.specs.Books.{HasNone, CallFits, TunnelFits, TablesFit}
 use Rattle.book_laws.proofs.Lists.{put_most, put_there, without_most}
+use Rattle.step_laws.specs.Moves.{new_tunnel}
 
 -- an end that comes after another: of the same role, and it has drawn as many ids or more
 pub record Grows (e x : End) : Type 0 where
@@ -83,7 +84,7 @@ call_without_fits e i t s h = record {
 
 -- one that has no calls
 pub bare_fits : (e : End) (i : ℕ) (c : Control) (ls : List Letter) → 0 < i → i < e.tunnel_ids.next → (state_number c.state ≡ 2 → 0 < c.remote) → 0 < peer_window c
-    → TunnelFits e i (record { control = c; letters = ls; calls = [] })
+    → TunnelFits e i (record (new_tunnel c) { letters = ls })
 bare_fits e i c ls some drawn remote window = record {
   some = some;
   drawn = drawn;

@@ -115,7 +115,7 @@ module _ (codecs : Codecs) (accs : Accounts) (n : ℕ) (e x : End) (sender : Opt
   tk = taken_as sender m.taken (move.Accepted m)
 
   abbrev b : Account
-  b = record { part = Acceptor; peer = node_of m.peer; remote = m.remote; given = first ∷ []; taken = tk ∷ []; closed = None; declined = false }
+  b = record no_account { part = Acceptor; peer = node_of m.peer; remote = m.remote; given = first ∷ []; taken = tk ∷ [] }
 
   only : IsOnly accs ms n i
   only = only_after accs d n (move.Accepted m) tt h.deed.node_is h.deed.move_is (

@@ -62,7 +62,7 @@ module _ (accs : Accounts) (n : ℕ) (e : End) (sender : Option Sender) (moment 
   first = record { tunnel = m.tunnel; place = m.given; session = 0; message = Sccrq (opening_of e.role (config_of n 0 None false) m.challenge None m.tunnel); hidden = None }
 
   abbrev new_account : Account
-  new_account = record { part = Opener; peer = node_of m.peer; remote = 0; given = first ∷ []; taken = []; closed = None; declined = false }
+  new_account = record no_account { part = Opener; peer = node_of m.peer; given = first ∷ [] }
 
   abbrev new : Tunnel
   new = with_letter 0 (Sccrq (opening_of e.role e.config m.challenge None m.tunnel)) (new_tunnel (begun m.tunnel m.peer 0 WaitCtlReply moment m.challenge))

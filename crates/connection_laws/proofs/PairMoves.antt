@@ -57,7 +57,7 @@ use Rattle.connection_laws.proofs.Taking.{with_taken, taken_as, takes_only, take
 
 -- the state may change, and the calls
 abbrev pub took : Tunnel → TunnelState → List (ℕ × Call) → Tunnel
-took t s calls = record { control = counts_taken (in_state s t.control); letters = t.letters; calls = calls }
+took t s calls = record t { control = counts_taken (in_state s t.control); calls = calls }
 
 -- what its calls are to be
 pub record AreCalls (calls : List (ℕ × Call)) : Type 0 where

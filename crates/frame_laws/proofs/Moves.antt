@@ -350,11 +350,11 @@ module _ (digits : (who : List ℕ) → length (calling_number who) ≡ 12) (n :
 
   -- the tunnel's calls change
   calls_led : (y : End) (i : ℕ) (t : Tunnel) (c : Control) (ls : List Letter) (calls : List (ℕ × Call)) → at x.tunnels i ≡ Some t
-      → Sets x y i (record { control = c; letters = ls; calls = calls }) → y.session_ids.next ≡ x.session_ids.next → c.local ≡ t.control.local
+      → Sets x y i (record t { control = c; letters = ls; calls = calls }) → y.session_ids.next ≡ x.session_ids.next → c.local ≡ t.control.local
       → c.peer ≡ t.control.peer → c.remote ≡ t.control.remote → LettersOk v.nodes n t.control.peer ls
       → CallsOk v.nodes n x.role x.session_ids.next t.control.peer calls → Ascends calls → Led v y
   calls_led y i t c ls calls there sets next local peer remote letters are order =
-      let u : Tunnel = record { control = c; letters = ls; calls = calls } in
+      let u : Tunnel = record t { control = c; letters = ls; calls = calls } in
       let o = here.end.tunnels i t there in
       led_still y i u sets next
       (record {
@@ -368,7 +368,7 @@ module _ (digits : (who : List ℕ) → length (calling_number who) ≡ 12) (n :
 
   -- a call of the tunnel goes on
   call_led : (y : End) (i : ℕ) (t : Tunnel) (c : Control) (ls : List Letter) (s : ℕ) (k : Call) → at x.tunnels i ≡ Some t
-      → Sets x y i (record { control = c; letters = ls; calls = put t.calls s k }) → y.session_ids.next ≡ x.session_ids.next → c.local ≡ t.control.local
+      → Sets x y i (record t { control = c; letters = ls; calls = put t.calls s k }) → y.session_ids.next ≡ x.session_ids.next → c.local ≡ t.control.local
       → c.peer ≡ t.control.peer → c.remote ≡ t.control.remote → LettersOk v.nodes n t.control.peer ls
       → CallOk v.nodes n x.role x.session_ids.next t.control.peer s k → Led v y
   call_led y i t c ls s k there sets next local peer remote letters call =
@@ -514,7 +514,7 @@ module _ (digits : (who : List ℕ) → length (calling_number who) ≡ 12) (n :
       → y ≡ without_calls x i (record t { control = c; letters = ls }) t.calls → c.local ≡ t.control.local → c.peer ≡ t.control.peer → c.remote < 65536
       → LettersOk v.nodes n t.control.peer ls → Led v y
   shut_led y i t c ls there same local peer remote letters =
-      let u : Tunnel = record { control = c; letters = ls; calls = [] } in
+      let u : Tunnel = record t { control = c; letters = ls; calls = [] } in
       let o = here.end.tunnels i t there in
       subst (λ e. Led v e) (sym same)
       (led_still _ i u (sets_tunnel _ i u) refl
@@ -642,12 +642,12 @@ module _ (digits : (who : List ℕ) → length (calling_number who) ≡ 12) (n :
 
     -- in a tunnel that is there
     made_led : (y : End) (i : ℕ) (t : Tunnel) (c : Control) (ls : List Letter) (k : Call) → at x.tunnels i ≡ Some t
-        → Sets x y i (record { control = c; letters = ls; calls = put t.calls s k }) → y.session_ids.next ≡ s + 1 → c.local ≡ t.control.local
+        → Sets x y i (record t { control = c; letters = ls; calls = put t.calls s k }) → y.session_ids.next ≡ s + 1 → c.local ≡ t.control.local
         → c.peer ≡ t.control.peer → c.remote ≡ t.control.remote → LettersOk w.nodes n t.control.peer ls
         → k.remote < 65536 → (k.remote ≡ 0) ⊎ Mates w.nodes n s (node_of t.control.peer) k.remote
         → (KnowsItsMate x.role k → Mates w.nodes n s (node_of t.control.peer) k.remote) → k.link ≡ None → Led w y
     made_led y i t c ls k there sets next local peer remote letters fits known mate link =
-        let u : Tunnel = record { control = c; letters = ls; calls = put t.calls s k } in
+        let u : Tunnel = record t { control = c; letters = ls; calls = put t.calls s k } in
         let o = here.end.tunnels i t there in
         let call : CallOk w.nodes n x.role (s + 1) t.control.peer s k =
         record { drawn = omega arith; birth = b; some = bears.some; born = born_now; remote = fits; known = known; mate = mate; link = λ lac. link } in
@@ -753,7 +753,7 @@ module _ (digits : (who : List ℕ) → length (calling_number who) ≡ 12) (n :
       let ls = t.letters ++ letter_of m.remote (Icrp m.session) ∷ [] in
       let olds = old_letters v' m.session b bears m.tunnel t h.there in
       let letters = one_more v'.nodes n t.control.peer t.letters olds m.remote (Icrp m.session) s.0.0 (omega arith, omega (arith, d.0)) mates in
-      let u : Tunnel = record { control = c; letters = ls; calls = put t.calls m.session (asked_for x.role m.remote moment) } in
+      let u : Tunnel = record t { control = c; letters = ls; calls = put t.calls m.session (asked_for x.role m.remote moment) } in
       let w : End = with_drawn (record x.session_ids { ceiling = ceiling_for x.session_ids; next = m.session + 1 }) m.tunnel u m.session in
       let same : y ≡ w = h.after ∙ ap (λ s. with_drawn s m.tunnel u m.session) (next_is x.session_ids m.session h.drawn) in
       subst (λ e. Led (with_birth v n m.session (birth_of v (node_of m.peer) m.remote)) e) (sym same)

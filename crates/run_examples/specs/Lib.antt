@@ -1,4 +1,5 @@
 pub mod Channels
+pub mod Samples
 pub mod Entries
 pub mod Crossing
 pub mod Endings

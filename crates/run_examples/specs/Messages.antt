@@ -25,35 +25,31 @@ use Rattle.session_looks.specs.declared.look.Look.TheVariants as look
 use Rattle.end_names.specs.declared.role.Role.TheVariants as role
 use Rattle.end_names.specs.Names.{subscriber, address_of, calling_number}
 use Rattle.end_model.specs.Messages.{opening_of}
-use Rattle.end_model.specs.End.{End, new_end, step}
+use Rattle.end_model.specs.Openings.{fresh}
+use Rattle.step_laws.specs.Moves.{new_tunnel}
+use Rattle.end_model.specs.End.{End, new_end, new_place, step}
 use Rattle.world_model.specs.World.{config_of}
 use Rattle.run_examples.specs.Channels.{channel}
+use Rattle.run_examples.specs.Samples.{tunnel_up, call_in, call_up, place_in}
 
 -- ---- a LAC, node 9, with a tunnel to the LNS, node 4
 
 -- the tunnel is 1, which the LNS calls 7; it has these letters, and one call, session 3
 abbrev pub lac_with : Call → Look → Numbers → List Letter → End
 lac_with c l n letters = record (new_end role.Lac (config_of 9 (address_of 4) None false)) {
-  tunnels = (
-    1,
-    record {
-      control = record { local = 1; peer = address_of 4; remote = 7; state = states.Established; channel = n; made = 0; heard = 0; closed = 0; flags = 3; challenge = None };
-      letters = letters;
-      calls = (3, c) ∷ [];
-    },
-  ) ∷ [];
-  calls = (3, record { tunnel = 1; look = l }) ∷ [];
+  tunnels = (1, tunnel_up 1 4 7 n letters ((3, c) ∷ [])) ∷ [];
+  calls = (3, place_in 1 l) ∷ [];
 }
 
 -- its call is asked for
 abbrev pub lac : Numbers → List Letter → End
-lac n letters = lac_with (record { remote = 0; state = WaitReply; since = 0; subscriber = subscriber 70; steps = []; link = None; sequence = None }) (look.Bound 1 (address_of 4)) n letters
+lac n letters = lac_with (call_in WaitReply 0 (subscriber 70)) (look.Bound 1 (address_of 4)) n letters
 
 -- its call is up, session 8 of the LNS
 abbrev pub lac_up : Numbers → List Letter → End
 lac_up n letters =
     lac_with
-    (record { remote = 8; state = Established; since = 0; subscriber = subscriber 70; steps = record { state = WaitReply; event = IcrpAcc; next = Established } ∷ []; link = None; sequence = None })
+    (record (call_up 8 (subscriber 70)) { steps = record { state = WaitReply; event = IcrpAcc; next = Established } ∷ [] })
     (look.Established 1 (address_of 4)) n letters
 
 abbrev pub letter_of : ℕ → Message → Letter
@@ -156,13 +152,12 @@ abbrev pub opening_lac : End
 opening_lac = record (new_end role.Lac (config_of 9 (address_of 4) None false)) {
   tunnels = (
     1,
-    record {
-      control = record { local = 1; peer = address_of 4; remote = 0; state = states.WaitCtlReply; channel = channel 0 1 1 0; made = 0; heard = 0; closed = 0; flags = 0; challenge = None };
+    record (new_tunnel (record (fresh (address_of 4) 0) { local = 1; state = states.WaitCtlReply; channel = channel 0 1 1 0 })) {
       letters = letter_of 0 (Sccrq (opening_of role.Lac (config_of 9 (address_of 4) None false) None None 1)) ∷ [];
-      calls = (3, record { remote = 0; state = WaitTunnel; since = 0; subscriber = subscriber 70; steps = []; link = None; sequence = None }) ∷ [];
+      calls = (3, call_in WaitTunnel 0 (subscriber 70)) ∷ [];
     },
   ) ∷ [];
-  calls = (3, record { tunnel = 1; look = look.Unborn }) ∷ [];
+  calls = (3, new_place 1) ∷ [];
 }
 
 -- the SCCRP tells a window of so many letters
@@ -181,10 +176,8 @@ abbrev pub lns : End
 lns = record (new_end role.Lns (config_of 4 0 None false)) {
   tunnels = (
     7,
-    record {
-      control = record { local = 7; peer = address_of 9; remote = 1; state = states.WaitCtlConn; channel = channel 0 1 1 1; made = 0; heard = 0; closed = 0; flags = 3; challenge = None };
+    record (new_tunnel (record (fresh (address_of 9) 0) { local = 7; remote = 1; state = states.WaitCtlConn; channel = channel 0 1 1 1; flags = 3 })) {
       letters = letter_of 0 (Sccrp (opening_of role.Lns (config_of 4 0 None false) None None 7)) ∷ [];
-      calls = [];
     },
   ) ∷ [];
 }

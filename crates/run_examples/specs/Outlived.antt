@@ -1,5 +1,5 @@
 -- Packets that have outlived half of the numbers of their channel (RFC 2661 section 5.8).
-use Rattle.std.specs.Prelude.{◌≡◌, ℕ, List, [], ◌∷◌, true, false, Option, Some, option_map, Result, Ok, Err, None}
+use Rattle.std.specs.Prelude.{◌≡◌, ℕ, List, [], ◌∷◌, false, Option, Some, option_map, Result, Ok, Err, None}
 use Rattle.id_table.specs.Ids.{at}
 use Rattle.l2tp_header.specs.Spelling.{control_bytes}
 use Rattle.avp_codec.specs.Spelling.{spelling}
@@ -7,7 +7,6 @@ use Rattle.control_message.specs.declared.message.Message.TheVariants.{Icrq}
 use Rattle.control_message.specs.Pairs.{pairs_of}
 use Rattle.recv_window.specs.Window.{on_wire}
 use Rattle.schedule_text.specs.declared.line.Line.TheVariants.{Deliver}
-use Rattle.tunnel_fsm.specs.declared.table.TunnelState.TheVariants as states
 use Rattle.end_model.specs.declared.event.Event.TheVariants.{Datagram}
 use Rattle.end_model.specs.declared.out.Origin.TheVariants as origin
 use Rattle.world_model.specs.declared.packet.Packet.{Packet}
@@ -17,20 +16,14 @@ use Rattle.end_names.specs.declared.role.Role.TheVariants as role
 use Rattle.end_names.specs.Names.{address_of}
 use Rattle.end_model.specs.End.{End, new_end, step}
 use Rattle.world_model.specs.Texts.{Entry, Sends}
-use Rattle.world_model.specs.World.{World, Lined, config_of, empty_world, new_checkpoint, line}
+use Rattle.world_model.specs.World.{World, Lined, config_of, empty_world, new_node, line}
 use Rattle.run_examples.specs.Channels.{channel}
+use Rattle.run_examples.specs.Samples.{tunnel_up}
 
 -- the LNS, node 4: in tunnel 7 to node 9 it took so many messages, and 50,000 of its own were acknowledged
 abbrev pub lns : ℕ → End
 lns taken = record (new_end role.Lns (config_of 4 0 None false)) {
-  tunnels = (
-    7,
-    record {
-      control = record { local = 7; peer = address_of 9; remote = 1; state = states.Established; channel = channel 50000 0 0 taken; made = 0; heard = 0; closed = 0; flags = 3; challenge = None };
-      letters = [];
-      calls = [];
-    },
-  ) ∷ [];
+  tunnels = (7, tunnel_up 7 9 1 (channel 50000 0 0 taken) [] []) ∷ [];
 }
 
 -- an ICRQ of node 9 with these numbers
@@ -46,7 +39,7 @@ packet ns nr = record {
 }
 
 abbrev pub world : ℕ → ℕ → ℕ → World
-world taken ns nr = record empty_world { nodes = (4, record { end = lns taken; up = true; clock = 0; births = []; access = None; checkpoint = new_checkpoint }) ∷ []; packets = packet ns nr ∷ [] }
+world taken ns nr = record empty_world { nodes = (4, record (new_node 0 4 role.Lns 0 None false) { end = lns taken }) ∷ []; packets = packet ns nr ∷ [] }
 
 -- what its delivery in line 12 leads to, at an LNS that took so many messages
 abbrev pub delivery : ℕ → ℕ → ℕ → Result Lined Refusal

@@ -5,8 +5,6 @@ use Rattle.id_source.specs.Spaces.{new_space, takes_id}
 use Rattle.id_table.specs.Ids.{ids_of}
 use Rattle.wire_base.specs.declared.why.Why.TheVariants as why
 use Rattle.wire_base.specs.declared.cause.Cause.TheVariants as cause
-use Rattle.tunnel_fsm.specs.declared.table.TunnelState.TheVariants as states
-use Rattle.call_fsm.specs.declared.table.CallState.TheVariants.{Established}
 use Rattle.end_model.specs.declared.event.Event.TheVariants.{Ring, DropCall}
 use Rattle.end_model.specs.declared.out.Out.{Out}
 use Rattle.end_model.specs.declared.out.Out.TheVariants.{Drop, Gone, Cause}
@@ -18,17 +16,19 @@ use Rattle.end_names.specs.declared.role.Role.TheVariants as role
 use Rattle.end_names.specs.Names.{subscriber, address_of}
 use Rattle.end_model.specs.Ringing.{rings_by}
 use Rattle.end_model.specs.Sending.{settles}
+use Rattle.step_laws.specs.Moves.{new_tunnel}
 use Rattle.end_model.specs.Tunnels.{turn_of}
 use Rattle.end_model.specs.End.{End, new_end, env_of, after_turn, step}
 use Rattle.world_model.specs.World.{config_of}
 use Rattle.run_examples.specs.Channels.{channel}
+use Rattle.run_examples.specs.Samples.{control_up, call_up, place_in}
 
 -- a call that is up, by the LNS's session
 abbrev pub up : ℕ → Call
-up remote = record { remote = remote; state = Established; since = 0; subscriber = subscriber 70; steps = []; link = None; sequence = None }
+up remote = call_up remote (subscriber 70)
 
 abbrev pub place : CallPlace
-place = record { tunnel = 1; look = look.Established 1 (address_of 4) }
+place = place_in 1 (look.Established 1 (address_of 4))
 
 -- sessions 3, 4, 5 and 6
 abbrev pub calls : List (ℕ × Call)
@@ -36,13 +36,13 @@ calls = (3, up 8) ∷ (4, up 9) ∷ (5, up 10) ∷ (6, up 11) ∷ []
 
 -- the tunnel holds 8,187 letters, of which the first is outstanding; they are left out
 abbrev pub control : Control
-control = record { local = 1; peer = address_of 4; remote = 7; state = states.Established; channel = channel 3 8187 1 2; made = 0; heard = 0; closed = 0; flags = 3; challenge = None }
+control = control_up 1 4 7 (channel 3 8187 1 2)
 
 -- the LAC, node 9
 abbrev pub lac : End
 lac = record (new_end role.Lac (config_of 9 (address_of 4) None false)) {
   session_ids = record (new_space 65534) { ceiling = 64; next = 7 };
-  tunnels = (1, record { control = control; letters = []; calls = calls }) ∷ [];
+  tunnels = (1, record (new_tunnel control) { calls = calls }) ∷ [];
   calls = (3, place) ∷ (4, place) ∷ (5, place) ∷ (6, place) ∷ [];
 }
 

@@ -11,8 +11,6 @@ use Rattle.control_message.specs.declared.message.Message.TheVariants.{StopCcn}
 use Rattle.control_message.specs.Pairs.{pairs_of}
 use Rattle.lcp_end.specs.Steps.{fresh, opened}
 use Rattle.call_link.specs.Link.{Link, new_link}
-use Rattle.call_fsm.specs.declared.table.CallState.TheVariants as call_states
-use Rattle.tunnel_fsm.specs.declared.table.TunnelState.TheVariants as states
 use Rattle.end_model.specs.declared.event.Event.{Event}
 use Rattle.end_model.specs.declared.event.Event.TheVariants.{Datagram, Ring, Lower, OpenTunnel}
 use Rattle.end_model.specs.declared.out.Out.{Out}
@@ -28,12 +26,13 @@ use Rattle.end_model.specs.End.{End, Stepped, new_end, env_of, handed, step}
 use Rattle.world_model.specs.World.{config_of}
 use Rattle.step_laws.specs.Steps.{IsChain}
 use Rattle.run_examples.specs.Channels.{channel}
+use Rattle.run_examples.specs.Samples.{tunnel_up, call_up, place_in}
 use Rattle.run_examples.specs.Crossing.{wished, conceded}
 use Rattle.run_examples.specs.Messages.{settled, answer, sccrq}
 
 -- the LNS, node 4, with one established call: session 3, in tunnel 2 to node 6
 abbrev pub lns : End
-lns = record (new_end role.Lns (config_of 4 0 None false)) { calls = (3, record { tunnel = 2; look = Established 2 (address_of 6) }) ∷ [] }
+lns = record (new_end role.Lns (config_of 4 0 None false)) { calls = (3, place_in 2 (Established 2 (address_of 6))) ∷ [] }
 
 -- a link that was opened at moment 0, whose LCP end asks for the magic number 17
 abbrev pub opened_link : Link
@@ -42,26 +41,8 @@ opened_link = record (new_link (record { moment = 0; block = [] })) { lcp = (ope
 -- the call as it was just connected, session 8 of node 6, whose tunnel is 5 there: its LCP end asked for its options
 abbrev pub waiting : End
 waiting = record (new_end role.Lns (config_of 4 0 None false)) {
-  tunnels = (
-    2,
-    record {
-      control = record { local = 2; peer = address_of 6; remote = 5; state = states.Established; channel = channel 2 0 0 4; made = 0; heard = 0; closed = 0; flags = 3; challenge = None };
-      letters = [];
-      calls = (
-        3,
-        record {
-          remote = 8;
-          state = call_states.Established;
-          since = 0;
-          subscriber = replicate 6 0;
-          steps = [];
-          link = Some opened_link;
-          sequence = None;
-        },
-      ) ∷ [];
-    },
-  ) ∷ [];
-  calls = (3, record { tunnel = 2; look = Bound 2 (address_of 6) }) ∷ [];
+  tunnels = (2, tunnel_up 2 6 5 (channel 2 0 0 4) [] ((3, record (call_up 8 (replicate 6 0)) { link = Some opened_link }) ∷ [])) ∷ [];
+  calls = (3, place_in 2 (Bound 2 (address_of 6))) ∷ [];
 }
 
 abbrev pub frame : List ℕ
@@ -132,22 +113,7 @@ abbrev pub numbered : Option ℕ → End
 numbered sequence = record waiting {
   tunnels = (
     2,
-    record {
-      control = record { local = 2; peer = address_of 6; remote = 5; state = states.Established; channel = channel 2 0 0 4; made = 0; heard = 0; closed = 0; flags = 3; challenge = None };
-      letters = [];
-      calls = (
-        3,
-        record {
-          remote = 8;
-          state = call_states.Established;
-          since = 0;
-          subscriber = replicate 6 0;
-          steps = [];
-          link = Some (record opened_link { network = true });
-          sequence = sequence;
-        },
-      ) ∷ [];
-    },
+    tunnel_up 2 6 5 (channel 2 0 0 4) [] ((3, record (call_up 8 (replicate 6 0)) { link = Some (record opened_link { network = true }); sequence = sequence }) ∷ []),
   ) ∷ [];
 }
 
@@ -183,14 +149,7 @@ spent last = record { last = last; ceiling = last; next = last + 1 }
 -- the LAC, node 9, with an open tunnel
 abbrev pub lac : End
 lac = record (new_end role.Lac (config_of 9 (address_of 4) None false)) {
-  tunnels = (
-    1,
-    record {
-      control = record { local = 1; peer = address_of 4; remote = 7; state = states.Established; channel = channel 3 0 0 2; made = 0; heard = 0; closed = 0; flags = 3; challenge = None };
-      letters = [];
-      calls = [];
-    },
-  ) ∷ [];
+  tunnels = (1, tunnel_up 1 4 7 (channel 3 0 0 2) [] []) ∷ [];
 }
 
 -- where no id is left, an open and a ring are refused with that cause, and an SCCRQ of another node is declined by a StopCCN of no

@@ -1,48 +1,36 @@
 -- The tables at the end of a report, where a call isn't up yet, and where a letter wasn't taken.
-use Rattle.std.specs.Prelude.{◌≡◌, ℕ, List, [], ◌∷◌, ◌++◌, codes, None, Some, true, false, replicate}
+use Rattle.std.specs.Prelude.{◌≡◌, ℕ, List, [], ◌∷◌, ◌++◌, codes, None, Some, false, replicate}
 use Rattle.lcp_end.specs.Steps.{fresh}
 use Rattle.call_link.specs.Link.{new_link}
-use Rattle.tunnel_fsm.specs.declared.table.TunnelState.TheVariants as states
-use Rattle.call_fsm.specs.declared.table.CallState.TheVariants.{Established, WaitReply}
+use Rattle.call_fsm.specs.declared.table.CallState.TheVariants.{WaitReply}
 use Rattle.end_names.specs.declared.role.Role.TheVariants as role
 use Rattle.end_names.specs.Names.{subscriber, address_of}
 use Rattle.end_model.specs.Tunnels.{Tunnel}
 use Rattle.end_model.specs.End.{new_end}
-use Rattle.world_model.specs.World.{World, Node, config_of, empty_world, new_checkpoint}
+use Rattle.world_model.specs.World.{World, Node, config_of, empty_world, new_node}
 use Rattle.world_model.specs.Run.{tables}
 use Rattle.run_examples.specs.Channels.{channel}
+use Rattle.run_examples.specs.Samples.{tunnel_up, call_in, call_up}
 
 -- the LAC, node 9, took two letters: one of two calls is up
 abbrev pub lac : ℕ → Tunnel
-lac queued = record {
-  control = record { local = 1; peer = address_of 4; remote = 7; state = states.Established; channel = channel 2 queued 1 2; made = 0; heard = 0; closed = 0; flags = 3; challenge = None };
-  letters = [];
-  calls =
-      (1, record { remote = 5; state = Established; since = 0; subscriber = subscriber 70; steps = []; link = None; sequence = None })
-      ∷ (2, record { remote = 0; state = WaitReply; since = 0; subscriber = subscriber 71; steps = []; link = None; sequence = None })
-      ∷ [];
-}
+lac queued = tunnel_up 1 4 7 (channel 2 queued 1 2) [] ((1, call_up 5 (subscriber 70)) ∷ (2, call_in WaitReply 0 (subscriber 71)) ∷ [])
 
 -- the LNS, node 4, took three letters; LCP isn't open in its call, which is a session nevertheless
 abbrev pub lns : ℕ → Tunnel
-lns queued = record {
-  control = record { local = 7; peer = address_of 9; remote = 1; state = states.Established; channel = channel 1 queued 1 3; made = 0; heard = 0; closed = 0; flags = 3; challenge = None };
-  letters = [];
-  calls = (5, record { remote = 1; state = Established; since = 0; subscriber = replicate 6 0; steps = []; link = Some (record (new_link (record { moment = 0; block = [] })) { lcp = fresh 17 }); sequence = None }) ∷ [];
-}
+lns queued =
+    tunnel_up 7 9 1 (channel 1 queued 1 3) []
+    ((5, record (call_up 1 (replicate 6 0)) { link = Some (record (new_link (record { moment = 0; block = [] })) { lcp = fresh 17 }) }) ∷ [])
 
 abbrev pub lac_node : ℕ → Node
-lac_node queued = record {
+lac_node queued = record (new_node 0 9 role.Lac (address_of 4) None false) {
   end = record (new_end role.Lac (config_of 9 (address_of 4) None false)) { tunnels = (1, lac queued) ∷ [] };
-  up = true;
-  clock = 0;
   births = (1, 2) ∷ (2, 1) ∷ [];
   access = None;
-  checkpoint = new_checkpoint;
 }
 
 abbrev pub lns_node : ℕ → Node
-lns_node queued = record { end = record (new_end role.Lns (config_of 4 0 None false)) { tunnels = (7, lns queued) ∷ [] }; up = true; clock = 0; births = (5, 2) ∷ []; access = None; checkpoint = new_checkpoint }
+lns_node queued = record (new_node 0 4 role.Lns 0 None false) { end = record (new_end role.Lns (config_of 4 0 None false)) { tunnels = (7, lns queued) ∷ [] }; births = (5, 2) ∷ [] }
 
 -- where the LAC and the LNS keep so many letters, of which the first was acknowledged by none yet
 abbrev pub world : ℕ → ℕ → World

@@ -82,15 +82,7 @@ accepts_calls w s x = refl
 
 -- an acceptor that took the SCCRQ and gave its SCCRP
 abbrev as_acceptor : ℕ → ℕ → Taken → step_laws.Letter → Account
-as_acceptor peer remote tk first = record {
-  part = Acceptor;
-  peer = peer;
-  remote = remote;
-  given = first ∷ [];
-  taken = tk ∷ [];
-  closed = None;
-  declined = false;
-}
+as_acceptor peer remote tk first = record no_account { part = Acceptor; peer = peer; remote = remote; given = first ∷ []; taken = tk ∷ [] }
 
 -- what the opener is in the machine
 record IsOpenerOf (w : World) (n m j : ℕ) : Type 0 where

@@ -71,7 +71,7 @@ opens_calls w n m x = refl
 
 -- the first letter of an opener
 abbrev as_opener : ℕ → step_laws.Letter → Account
-as_opener peer first = record { part = Opener; peer = peer; remote = 0; given = first ∷ []; taken = []; closed = None; declined = false }
+as_opener peer first = record no_account { part = Opener; peer = peer; given = first ∷ [] }
 
 opens_here : (w : World) (n i m : ℕ) (first : step_laws.Letter) (o : Option Tunnel) (u : Tunnel) → TunnelJoined w n i no_account o
     → letter_of n m first ≡ letter.Sccrq → phase_of u.control.state ≡ WaitReply

@@ -22,7 +22,7 @@ use Rattle.end_model.specs.Channels.{may_take}
 use Rattle.end_model.specs.Events.{tunnel_after, with_calls}
 use Rattle.end_model.specs.End.{End}
 use Rattle.step_laws.specs.Causes.{IsTold, CameAbout}
-use Rattle.step_laws.specs.Moves.{Came, Says, IsFor, ComesTo, IsNext, HearsNext, IsPlain, InTunnel}
+use Rattle.step_laws.specs.Moves.{Came, Says, IsFor, ComesTo, IsNext, HearsNext, IsPlain, InTunnel, new_tunnel}
 use Rattle.step_laws.proofs.Turns.{ComesPlain, TurnOk, PlainAt, at_turn}
 
 -- an empty body is no message
@@ -87,7 +87,7 @@ module _ (e : End) (moment : ℕ) (ev : Event) (letters : List Letter) (calls : 
     pub changed : t.changed ≡ []
     -- the tunnel before the step
     pub first : Control
-    pub there : at e.tunnels i ≡ Some (record { control = first; letters = letters; calls = calls })
+    pub there : at e.tunnels i ≡ Some (record (new_tunnel first) { letters = letters; calls = calls })
     pub local : first.local ≡ t.control.local
     pub remote : first.remote ≡ t.control.remote
     pub peer : first.peer ≡ t.control.peer
@@ -137,7 +137,7 @@ module _ (e : End) (moment : ℕ) (ev : Event) (letters : List Letter) (calls : 
   -- ---- the tunnel before the step
 
   abbrev pub begun : (t : Turn) → Fresh t → Tunnel
-  begun t f = record { control = f.first; letters = letters; calls = calls }
+  begun t f = record (new_tunnel f.first) { letters = letters; calls = calls }
 
   -- the next letter was the next one then
   pub next_first : (t : Turn) (f : Fresh t) (k : Came) → IsNext ev (now t) k → IsNext ev (begun t f) k

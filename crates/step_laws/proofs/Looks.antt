@@ -29,7 +29,7 @@ use Rattle.end_model.specs.Tunnels.{Tunnel}
 use Rattle.end_model.specs.Links.{with_link, looks_of}
 use Rattle.end_model.specs.End.{End, with_look, with_looks}
 use Rattle.step_laws.specs.Callers.{wanted_by_lac}
-use Rattle.step_laws.specs.Moves.{with_tunnel, Does, Chain}
+use Rattle.step_laws.specs.Moves.{with_tunnel, Does, Chain, new_tunnel}
 use Rattle.step_laws.specs.Steps.{AreKept, StepsAreChains}
 use Rattle.step_laws.proofs.States.{requested_state, replied_state, rung_state, connected_state, up_state, request_is_lac, connection_is_lac, reply_is_lns, connected_is_lns}
 use Rattle.step_laws.proofs.Lists.{found_among, none_not_among, ascends_look, ascends_looks, killed_same, killed_other}
@@ -133,7 +133,7 @@ module _ (x : End) (ok : LooksAreTrue x) where
   }
 
   -- a tunnel that is new has no calls
-  tunnel_born : (y : End) (i : ℕ) (c : Control) (ls : List Letter) → i ≡ x.tunnel_ids.next → y.tunnels ≡ put x.tunnels i (record { control = c; letters = ls; calls = [] })
+  tunnel_born : (y : End) (i : ℕ) (c : Control) (ls : List Letter) → i ≡ x.tunnel_ids.next → y.tunnels ≡ put x.tunnels i (record (new_tunnel c) { letters = ls })
       → y.calls ≡ x.calls → y.tunnel_ids.next ≡ i + 1 → y.session_ids ≡ x.session_ids → y.role ≡ x.role → LooksAreTrue y
   tunnel_born y i c ls fresh tunnels calls next sessions role = record {
     live = λ s p f.
@@ -141,25 +141,25 @@ module _ (x : End) (ok : LooksAreTrue x) where
         let lt = ok.tunnels p.tunnel l.tunnel l.there in
         record {
           tunnel = l.tunnel;
-          there = rw tunnels (at_other x.tunnels i (record { control = c; letters = ls; calls = [] }) p.tunnel (λ e. omega (arith, fresh, e)) ∙ l.there);
+          there = rw tunnels (at_other x.tunnels i (record (new_tunnel c) { letters = ls }) p.tunnel (λ e. omega (arith, fresh, e)) ∙ l.there);
           call = l.call;
           live = l.live;
         };
     seen = λ j u f s d g. ⊎_elim
-        (λ (a : (j ≡ i) × (record { control = c; letters = ls; calls = [] } ≡ u)). absurd (let h : at [] s ≡ Some d = rw (← a.1) at g in none-some d (sym (at-none s) ∙ h)))
+        (λ (a : (j ≡ i) × (record (new_tunnel c) { letters = ls } ≡ u)). absurd (let h : at [] s ≡ Some d = rw (← a.1) at g in none-some d (sym (at-none s) ∙ h)))
         (λ a. rw calls (ok.seen j u a.1 s d g))
-        (found_put x.tunnels i (record { control = c; letters = ls; calls = [] }) j u (rw (← tunnels) f));
-    links = links_put y i (record { control = c; letters = ls; calls = [] }) tunnels role (λ s d g. absurd (none-some d (sym (at-none s) ∙ g)));
+        (found_put x.tunnels i (record (new_tunnel c) { letters = ls }) j u (rw (← tunnels) f));
+    links = links_put y i (record (new_tunnel c) { letters = ls }) tunnels role (λ s d g. absurd (none-some d (sym (at-none s) ∙ g)));
     tunnels = λ j u f. ⊎_elim
-        (λ (a : (j ≡ i) × (record { control = c; letters = ls; calls = [] } ≡ u)). (let e = a.0 in omega (arith, next, e)))
+        (λ (a : (j ≡ i) × (record (new_tunnel c) { letters = ls } ≡ u)). (let e = a.0 in omega (arith, next, e)))
         (λ a. let lt = ok.tunnels j u a.1 in omega (arith, next, fresh))
-        (found_put x.tunnels i (record { control = c; letters = ls; calls = [] }) j u (rw (← tunnels) f));
+        (found_put x.tunnels i (record (new_tunnel c) { letters = ls }) j u (rw (← tunnels) f));
     sessions = λ s p f. rw sessions (ok.sessions s p (rw (← calls) f));
   }
 
   -- a call of a tunnel is put, with its place; no other tunnel has it
   record SetsCall (y : End) (i : ℕ) (t : Tunnel) (c : Control) (ls : List Letter) (s : ℕ) (k : Call) : Type 0 where
-    tunnels : y.tunnels ≡ put x.tunnels i (record { control = c; letters = ls; calls = put t.calls s k })
+    tunnels : y.tunnels ≡ put x.tunnels i (record t { control = c; letters = ls; calls = put t.calls s k })
     there : at x.tunnels i ≡ Some t
     peer : c.peer ≡ t.control.peer
     only : (j : ℕ) (u : Tunnel) → at x.tunnels j ≡ Some u → (j ≡ i → ⊥) → (d : Call) → at u.calls s ≡ Some d → ⊥
@@ -172,7 +172,7 @@ module _ (x : End) (ok : LooksAreTrue x) where
 
   module _ (y : End) (i : ℕ) (t : Tunnel) (c : Control) (ls : List Letter) (s : ℕ) (k : Call) (sets : SetsCall y i t c ls s k) where
     abbrev u : Tunnel
-    u = record { control = c; letters = ls; calls = put t.calls s k }
+    u = record t { control = c; letters = ls; calls = put t.calls s k }
 
     abbrev place : CallPlace
     place = record { tunnel = i; look = look_of k i t.control.peer }
@@ -249,7 +249,7 @@ module _ (x : End) (ok : LooksAreTrue x) where
 
   -- a call of a tunnel ended, and its place isn't there any more
   record EndsCall (y : End) (i : ℕ) (t : Tunnel) (c : Control) (ls : List Letter) (s : ℕ) (k : Call) : Type 0 where
-    tunnels : y.tunnels ≡ put x.tunnels i (record { control = c; letters = ls; calls = without t.calls s })
+    tunnels : y.tunnels ≡ put x.tunnels i (record t { control = c; letters = ls; calls = without t.calls s })
     there : at x.tunnels i ≡ Some t
     peer : c.peer ≡ t.control.peer
     live : at t.calls s ≡ Some k
@@ -260,7 +260,7 @@ module _ (x : End) (ok : LooksAreTrue x) where
 
   module _ (order : AreOrdered x) (y : End) (i : ℕ) (t : Tunnel) (c : Control) (ls : List Letter) (s : ℕ) (k : Call) (ends : EndsCall y i t c ls s k) where
     abbrev rest : Tunnel
-    rest = record { control = c; letters = ls; calls = without t.calls s }
+    rest = record t { control = c; letters = ls; calls = without t.calls s }
 
     still : (q : ℕ) (p : CallPlace) → at y.calls q ≡ Some p → (q ≡ s → ⊥) × (at x.calls q ≡ Some p)
     still q p f = found_without x.calls s q p order.places (rw (← ends.calls) f)
@@ -338,7 +338,7 @@ module _ (x : End) (ok : LooksAreTrue x) where
   -- a tunnel is closed with its calls
   module _ (order : AreOrdered x) (i : ℕ) (t : Tunnel) (there : at x.tunnels i ≡ Some t) (c : Control) (ls : List Letter) where
     abbrev bare : Tunnel
-    bare = record { control = c; letters = ls; calls = [] }
+    bare = record t { control = c; letters = ls; calls = [] }
 
     abbrev closed : End
     closed = record x { tunnels = put x.tunnels i bare; calls = with_looks (map cell.Kill (ids_of t.calls)) x.calls }

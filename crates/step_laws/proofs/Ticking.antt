@@ -34,7 +34,7 @@ use Rattle.end_model.specs.Closing.{ends_by}
 use Rattle.end_model.specs.Links.{link_env}
 use Rattle.end_model.specs.Linking.{links, ticks_link}
 use Rattle.end_model.specs.End.{drawing_of, End}
-use Rattle.step_laws.specs.Moves.{TookTooLong, IsLate}
+use Rattle.step_laws.specs.Moves.{TookTooLong, IsLate, new_tunnel}
 use Rattle.step_laws.proofs.Lists.{all_push, and_left, and_right, branch, chain_more}
 use Rattle.step_laws.proofs.Moments.{passed, not_up}
 use Rattle.step_laws.proofs.Owing.{Fits, live_open, some_owed, fits_given, owes_told}
@@ -233,9 +233,9 @@ module _ (e : End) (moment : ℕ) (letters : List Letter) (calls : List (ℕ × 
 
   -- ---- calls that take too long, of the tunnel that is there
 
-  module _ (first : Control) (is_there : at e.tunnels i ≡ Some (record { control = first; letters = letters; calls = calls })) where
+  module _ (first : Control) (is_there : at e.tunnels i ≡ Some (record (new_tunnel first) { letters = letters; calls = calls })) where
     abbrev begun : Tunnel
-    begun = record { control = first; letters = letters; calls = calls }
+    begun = record (new_tunnel first) { letters = letters; calls = calls }
 
     limited : (s : ℕ) (c : Call) (t : Turn) → at calls s ≡ Some c → at (with_calls t.changed calls) s ≡ Some c → TookTooLong Tick moment c → is_set_up c.state ≡ true → s < 65536 → Ticking t
         → Limited s t (settles false letters (ends_by cause.Setup 10 None s c (row_for e.role c call_event.Close).1 t))

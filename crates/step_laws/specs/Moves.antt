@@ -13,7 +13,7 @@ use Rattle.control_message.specs.declared.kind.Kind.{Kind}
 use Rattle.control_message.specs.declared.kind.Kind.TheVariants as kind
 use Rattle.control_message.specs.declared.message.Opening.{Opening}
 use Rattle.send_window.specs.declared.window.Tick.TheVariants.{Again}
-use Rattle.control_channel.specs.Numbers.{opened_at, learnt_by, count_acked, next_to_go, answer_to_tick}
+use Rattle.control_channel.specs.Numbers.{learnt_by, count_acked, next_to_go, answer_to_tick}
 use Rattle.tunnel_fsm.specs.declared.table.TunnelState.{TunnelState}
 use Rattle.tunnel_fsm.specs.declared.table.TunnelState.TheVariants.{WaitCtlReply, WaitCtlConn, Established}
 use Rattle.tunnel_fsm.specs.declared.table.TunnelState.TheVariants as state
@@ -70,7 +70,7 @@ use Rattle.session_looks.specs.Frames.{side_of}
 use Rattle.end_model.specs.Calls.{row_for, row_of_none, advanced, with_numbers, number_of, counted, rung, asked_for, is_request, is_reply, is_connection, is_told, is_up, owed_by, is_clean_up}
 use Rattle.end_model.specs.Tunnels.{Tunnel}
 use Rattle.end_model.specs.Channels.{place, next_place, taken_place, peer_window, letter_of, letter_as, counts_given, counts_taken, counts_acked, counts_sent, counts_repeated}
-use Rattle.end_model.specs.Openings.{in_state}
+use Rattle.end_model.specs.Openings.{in_state, fresh}
 use Rattle.end_model.specs.Messages.{flags_of, opening_of, request_of, connection, event_by}
 use Rattle.end_model.specs.Asking.{session_named}
 use Rattle.end_model.specs.Reasons.{fault_error}
@@ -128,18 +128,7 @@ new_tunnel c = record { control = c; letters = []; calls = [] }
 
 -- of these ids, in this state, made at a moment, with an empty channel and a window of 4 (RFC 2661 section 4.4.3), asking this
 abbrev pub begun : ℕ → ℕ → ℕ → TunnelState → ℕ → Option (List ℕ) → Control
-begun local peer remote state moment challenge = record {
-  local = local;
-  peer = peer;
-  remote = remote;
-  state = state;
-  channel = opened_at 0 0 4;
-  made = moment;
-  heard = moment;
-  closed = 0;
-  flags = 0;
-  challenge = challenge;
-}
+begun local peer remote state moment challenge = record (fresh peer moment) { local = local; remote = remote; state = state; challenge = challenge }
 
 -- the peer's receive window becomes known; one of 0 letters is none
 abbrev pub learns_window : ℕ → Control → Control
