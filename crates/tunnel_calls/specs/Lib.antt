@@ -1,1 +1,2 @@
 pub mod Remotes
+pub mod Replays

@@ -1,13 +1,14 @@
 //! The calls of a tunnel, by session id, with how many letters they owe, and with a moment before which none of them is due.
 #![tactic(auto)]
 
-ghost use Rattle.std.specs.Prelude.{◌≡◌, ◌<◌, ◌^◌, [], find, OnOk, IfOk, option_copied, option_map};
+ghost use Rattle.std.specs.Prelude.{◌≡◌, ◌<◌, ◌^◌, [], find, OnOk, IfOk, IfSome, true, option_copied, option_map};
 ghost use Rattle.id_table.specs.Ids.{at, put, without, ids_of};
 ghost use Rattle.id_table.specs.Tables.{HasRoom, KeepsRoom};
 ghost use Rattle.end_model.specs.Calls.{owes, owed_by, are_too_many};
 ghost use Rattle.end_model.specs.Owing.{owed_at};
 ghost use Rattle.end_model.specs.Asking.{is_call_of, call_of, session_named};
 ghost use Rattle.tunnel_timers.specs.Due.{IsNoLater, bound_of, call_due, calls_due, due_at, earliest_at};
+ghost use Rattle.tunnel_calls.specs.Replays.{replays};
 
 use call_fsm::CallState;
 use end_model::Call;
@@ -62,7 +63,8 @@ fn due_at(session: u32, call: Option<&Call>) -> u64
     }
 }
 
-/// The calls of a tunnel by session id, seen as their table. How many letters they owe is kept beside it, so that what it takes
+/// The calls of a tunnel by session id, seen as their table. The rows of each are rows of the tables of calls, follow on each other from the
+/// state in which it began, and lead to its state. How many letters they owe is kept beside it, so that what it takes
 /// to know it doesn't grow with the calls, and so is an index of the calls by the ids that the peer assigned.
 #[derive(Drop)]
 pub struct TunnelCalls {
@@ -84,12 +86,13 @@ impl Model for TunnelCalls {
     ghost use Rattle.tunnel_timers.specs.Due.{IsNoLater, calls_due};
     ghost use Rattle.id_index.specs.Indexes.{Lists, IsWithin};
     ghost use Rattle.tunnel_calls.specs.Remotes.{remotes_of};
+    ghost use Rattle.tunnel_calls.specs.Replays.{AllReplay};
 
     ghost Value = { Kept Call };
 
     ghost view = { λ c. c.table };
 
-    ghost invariant = { λ c. Ascends c.table.entries × (c.owed ≡ owed_by c.table.entries) × IsWithin c.table.entries × Lists c.remotes (remotes_of c.table.entries) × IsNoLater c.due (calls_due c.table.entries) };
+    ghost invariant = { λ c. Ascends c.table.entries × (c.owed ≡ owed_by c.table.entries) × IsWithin c.table.entries × Lists c.remotes (remotes_of c.table.entries) × IsNoLater c.due (calls_due c.table.entries) × AllReplay c.table.entries };
 }
 
 impl TunnelCalls {
@@ -112,9 +115,10 @@ impl TunnelCalls {
         &self.table
     }
 
-    /// The call with this session id.
+    /// The call with this session id. Its rows lead from where it began to its state.
     pub fn get(&self, session: u32) -> Option<&Call>
-        ensures { option_copied result ≡ at self.now.entries session }
+        ensures found { option_copied result ≡ at self.now.entries session }
+        ensures replays { IfSome (option_copied result) (λ c. replays c ≡ true) }
     {
         self.table.get(session)
     }
@@ -204,10 +208,11 @@ impl TunnelCalls {
         self.table.make_room(session)
     }
 
-    /// Puts a call at a session id that has room, in place of the one there. It takes no memory where room was made for this
-    /// call, and else at most that of a key.
+    /// Puts a call at a session id that has room, in place of the one there; its rows lead to its state. It takes no memory where room was
+    /// made for this call, and else at most that of a key.
     pub fn fill(&mut self, session: u32, call: Call)
-        requires { HasRoom self.old session }
+        requires room { HasRoom self.old session }
+        requires replays { replays call ≡ true }
         ensures entries { self.new.entries ≡ put self.old.entries session call }
         ensures room { KeepsRoom self.old self.new }
     {

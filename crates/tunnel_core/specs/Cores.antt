@@ -1,5 +1,5 @@
 -- A tunnel as its code keeps it, and what a step of it is about to change.
-use Rattle.std.specs.Prelude.{◌≡◌, ℕ, ◌≤◌, Bool, List, ◌++◌, drop, length, Option}
+use Rattle.std.specs.Prelude.{◌≡◌, ℕ, ◌≤◌, Bool, true, List, ◌++◌, drop, length, Option, IfSome}
 use Rattle.std.specs.List.{AllByRecursion}
 use Rattle.id_table.specs.Tables.{Kept, HasRoom}
 use Rattle.wire_base.specs.declared.letter.Letter.{Letter}
@@ -8,6 +8,7 @@ use Rattle.end_model.specs.declared.tunnel.Call.{Call}
 use Rattle.end_model.specs.declared.tunnel.Control.{Control}
 use Rattle.end_model.specs.Tunnels.{Tunnel, Turn}
 use Rattle.end_model.specs.Events.{with_calls}
+use Rattle.tunnel_calls.specs.Replays.{replays}
 
 pub record Core : Type 0 where
   pub control : Control
@@ -39,6 +40,13 @@ pub record IsTurn (p : Plan) (t : Turn) : Type 0 where
 -- there is room for each of these calls
 abbrev pub AllHaveRoom : Kept Call → List (ℕ × Option Call) → Type 0
 AllHaveRoom kept calls = AllByRecursion (λ c. HasRoom kept c.0) calls
+
+-- the rows of each of these calls lead to its state
+abbrev pub CallReplays : ℕ × Option Call → Type 0
+CallReplays c = IfSome c.1 (λ x. replays x ≡ true)
+
+abbrev pub AllCallsReplay : List (ℕ × Option Call) → Type 0
+AllCallsReplay calls = AllByRecursion CallReplays calls
 
 -- a tunnel after what was planned for it
 abbrev pub made_of : Plan → Tunnel → Tunnel

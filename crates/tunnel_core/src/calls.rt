@@ -1,9 +1,10 @@
 //! Calls that are connected and ended by the peer's messages (RFC 2661 section 7.4).
 
-ghost use Rattle.std.specs.Prelude.{◌≡◌, OnOk, IsTrue};
+ghost use Rattle.std.specs.Prelude.{◌≡◌, OnOk, IsTrue, true, IfSome};
 ghost use Rattle.std.specs.Option.{option_copied};
 ghost use Rattle.end_model.specs.Channels.{has_room};
 ghost use Rattle.end_model.specs.Connecting.{first_up, first_up_by, second_up_by, end_heard, end_heard_by};
+ghost use Rattle.tunnel_calls.specs.Replays.{replays};
 
 use crate::links::link_up;
 use crate::refusing::{answer, answer_no_call};
@@ -27,6 +28,7 @@ fn first_up(
     call: &Call,
 ) -> Result<(), NoMemory>
     requires room { IsTrue (has_room turn.old.control) }
+    requires replays { replays call.now ≡ true }
     ensures { OnOk result (turn.new ≡ first_up role session remote call.now turn.old) }
 {
     let given = turn.next_place();
@@ -70,6 +72,7 @@ pub(crate) fn take_reply(
     remote: u16,
     call: Option<&Call>,
 ) -> Result<(), NoMemory>
+    requires replays { IfSome (option_copied call) (λ c. replays c ≡ true) }
     ensures { OnOk result (turn.new ≡ first_up_by role session remote (option_copied call.entry) turn.old) }
 {
     let Some(call) = call else {
@@ -95,6 +98,7 @@ pub(crate) fn take_connection(
     session: u16,
     call: Option<&Call>,
 ) -> Result<(), NoMemory>
+    requires replays { IfSome (option_copied call) (λ c. replays c ≡ true) }
     ensures { OnOk result (turn.new ≡ second_up_by role sequenced session (option_copied call.entry) turn.old) }
 {
     let Some(call) = call else {

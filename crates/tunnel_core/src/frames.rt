@@ -1,8 +1,9 @@
 //! Frames of calls, which go to the tunnel's peer.
 
-ghost use Rattle.std.specs.Prelude.{◌≡◌, OnOk};
+ghost use Rattle.std.specs.Prelude.{◌≡◌, OnOk, true, IfSome};
 ghost use Rattle.std.specs.Option.{option_copied};
 ghost use Rattle.end_model.specs.Frames.{sends_frame, counts, carried, carries};
+ghost use Rattle.tunnel_calls.specs.Replays.{replays};
 
 use crate::turn::Turn;
 use end_model::{Call, Counted, FrameSent, Move, Origin, Out};
@@ -41,8 +42,9 @@ fn give_frame(turn: &mut Turn, session: u16, frame: &[u8], call: &Call) -> Resul
 }
 
 /// The call, of which a data message was sent, has the next number where its data messages have one.
-#[tactic(auto, unfolding(end_model::specs::Frames::counts))]
+#[tactic(auto, unfolding(tunnel_calls::specs::Replays::replays, end_model::specs::Frames::counts))]
 fn count(turn: &mut Turn, session: u16, call: &Call) -> Result<(), NoMemory>
+    requires replays { replays call.now ≡ true }
     ensures { OnOk result (turn.new ≡ counts session call.now call.now.sequence turn.old) }
 {
     if call.sequence.is_none() {
@@ -61,6 +63,7 @@ pub(crate) fn send_frame(
     frame: &[u8],
     call: &Call,
 ) -> Result<(), NoMemory>
+    requires replays { replays call.now ≡ true }
     ensures { OnOk result (turn.new ≡ carried session frame.now call.now turn.old) }
 {
     give_frame(turn, session, frame, call)?;
@@ -75,6 +78,7 @@ pub(crate) fn carry(
     frame: &[u8],
     call: Option<&Call>,
 ) -> Result<(), NoMemory>
+    requires replays { IfSome (option_copied call) (λ c. replays c ≡ true) }
     ensures { OnOk result (turn.new ≡ carries session frame.now (option_copied call.entry) turn.old) }
 {
     let Some(call) = call else {

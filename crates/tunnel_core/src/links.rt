@@ -1,7 +1,7 @@
 //! The links of calls (RFC 1661): an LNS's call has one from its connection on. Its frames go to the tunnel's peer, and the call ends
 //! where the link says so.
 
-ghost use Rattle.std.specs.Prelude.{◌≡◌, OnOk, IfOk};
+ghost use Rattle.std.specs.Prelude.{◌≡◌, OnOk, IfOk, true, IfSome};
 ghost use Rattle.std.specs.Option.{option_copied};
 ghost use Rattle.call_link.specs.Turns.{Ticks, linked};
 ghost use Rattle.end_model.specs.Calls.{counted_all};
@@ -9,6 +9,7 @@ ghost use Rattle.end_model.specs.Links.{link_env, with_link, looks_of};
 ghost use Rattle.end_model.specs.Turn.{with_looks_of};
 ghost use Rattle.end_model.specs.Linking.{sends_frames, negotiated, ends_linked, links, hears_link, hears_lcp, ticks_link};
 ghost use Rattle.end_model.specs.Connecting.{connects_call, linked_up, second_up};
+ghost use Rattle.tunnel_calls.specs.Replays.{replays};
 
 use crate::closing::{ADMINISTRATIVE, end_by};
 use crate::frames::send_frame;
@@ -34,8 +35,11 @@ fn link_env(turn: &Turn) -> LinkEnv
 }
 
 /// A copy of a call, with this link.
+#[tactic(auto, unfolding(tunnel_calls::specs::Replays::replays))]
 fn with_link(alloc: Global, link: Link, call: &Call) -> Result<Call, NoMemory>
-    ensures { IfOk result (λ c. c ≡ with_link link call.now) }
+    requires replays { replays call.now ≡ true }
+    ensures value { IfOk result (λ c. c ≡ with_link link call.now) }
+    ensures replays { IfOk result (λ c. replays c ≡ true) }
 {
     let mut linked = copy_call(alloc, call)?;
     linked.link = Some(link);
@@ -44,14 +48,16 @@ fn with_link(alloc: Global, link: Link, call: &Call) -> Result<Call, NoMemory>
 
 /// Sends these frames of a call to the tunnel's peer, in order. The call has the numbers behind theirs where its data messages have
 /// one.
-#[tactic(auto, unfolding(end_model::specs::Linking::sends_frames))]
+#[tactic(auto, unfolding(tunnel_calls::specs::Replays::replays, end_model::specs::Linking::sends_frames))]
 fn send_frames(
     turn: &mut Turn,
     session: u16,
     frames: &[Bytes],
     call: &mut Call,
 ) -> Result<(), NoMemory>
-    ensures { OnOk result ((turn.new ≡ sends_frames session frames.now call.old turn.old) × (call.new ≡ counted_all frames.now call.old)) }
+    requires replays { replays call.old ≡ true }
+    ensures value { OnOk result ((turn.new ≡ sends_frames session frames.now call.old turn.old) × (call.new ≡ counted_all frames.now call.old)) }
+    ensures replays { OnOk result (replays call.new ≡ true) }
 {
     for frame in frames {
         send_frame(turn, session, frame.as_slice(), call)?;
@@ -72,8 +78,9 @@ fn look_by(turn: &mut Turn, session: u16, opens: bool) -> Result<(), NoMemory>
 }
 
 /// The call goes on with its link as a call of it leaves it, and what that gave is sent.
-#[tactic(auto, unfolding(end_model::specs::Linking::negotiated))]
+#[tactic(auto, unfolding(tunnel_calls::specs::Replays::replays, end_model::specs::Linking::negotiated))]
 fn negotiate(turn: &mut Turn, session: u16, call: &Call, given: &LinkTurn) -> Result<(), NoMemory>
+    requires replays { replays call.now ≡ true }
     ensures { OnOk result (turn.new ≡ negotiated session call.now given.now turn.old) }
 {
     let tunnel = turn.control.local;
@@ -86,7 +93,7 @@ fn negotiate(turn: &mut Turn, session: u16, call: &Call, given: &LinkTurn) -> Re
 }
 
 /// The link of a call ends it, behind its frames.
-#[tactic(auto, unfolding(end_model::specs::Linking::ends_linked))]
+#[tactic(auto, unfolding(tunnel_calls::specs::Replays::replays, end_model::specs::Linking::ends_linked))]
 fn end_linked(
     turn: &mut Turn,
     role: Role,
@@ -96,6 +103,7 @@ fn end_linked(
     given: &LinkTurn,
     cause: Cause,
 ) -> Result<(), NoMemory>
+    requires replays { replays call.now ≡ true }
     ensures { OnOk result (turn.new ≡ ends_linked role letters.now.letters session call.now given.now cause turn.old) }
 {
     let mut after = copy_call(turn.alloc, call)?;
@@ -115,6 +123,7 @@ fn follow_link(
     call: &Call,
     given: &LinkTurn,
 ) -> Result<(), NoMemory>
+    requires replays { replays call.now ≡ true }
     ensures { OnOk result (turn.new ≡ links role letters.now.letters session call.now given.now turn.old) }
 {
     match given.ends {
@@ -133,6 +142,7 @@ fn hear_link(
     frame: &[u8],
     call: &Call,
 ) -> Result<(), NoMemory>
+    requires replays { replays call.now ≡ true }
     ensures { OnOk result (turn.new ≡ hears_link role letters.now.letters session frame.now call.now call.now.link turn.old) }
 {
     let Some(link) = &call.link else {
@@ -153,6 +163,7 @@ pub(crate) fn hear_lcp(
     frame: &[u8],
     call: Option<&Call>,
 ) -> Result<(), NoMemory>
+    requires replays { IfSome (option_copied call) (λ c. replays c ≡ true) }
     ensures { OnOk result (turn.new ≡ hears_lcp role letters.now.letters session frame.now (option_copied call.entry) turn.old) }
 {
     let Some(call) = call else {
@@ -173,6 +184,7 @@ fn run_out(
     call: &Call,
     link: &Link,
 ) -> Result<(), NoMemory>
+    requires replays { replays call.now ≡ true }
     ensures { OnOk result (turn.new ≡ links role letters.now.letters session call.now (linked (link_env turn.old.on) Ticks link.now) turn.old) }
 {
     let env = link_env(turn);
@@ -189,6 +201,7 @@ pub(crate) fn tick_link(
     session: u16,
     call: &Call,
 ) -> Result<(), NoMemory>
+    requires replays { replays call.now ≡ true }
     ensures { OnOk result (turn.new ≡ ticks_link role letters.now.letters session call.now call.now.link turn.old) }
 {
     let Some(link) = &call.link else {
@@ -203,6 +216,7 @@ pub(crate) fn tick_link(
 /// The call is connected, and has its link.
 #[tactic(auto, unfolding(end_model::specs::Connecting::second_up))]
 fn second_up(turn: &mut Turn, sequenced: bool, session: u16, call: Call) -> Result<(), NoMemory>
+    requires replays { replays call ≡ true }
     ensures { OnOk result (turn.new ≡ second_up sequenced session call turn.old) }
 {
     let taken = turn.taken_place();
@@ -234,6 +248,7 @@ fn open_link(
     call: &Call,
     link: Link,
 ) -> Result<(), NoMemory>
+    requires replays { replays call.now ≡ true }
     ensures { OnOk result (turn.new ≡ connects_call sequenced session (with_link link call.now) link turn.old) }
 {
     let linked = with_link(turn.alloc, link, call)?;
@@ -245,7 +260,7 @@ fn open_link(
 
 /// The call is connected: it has a link from now on, which is opened, and its data messages have numbers where its ICCN had
 /// Sequencing Required.
-#[tactic(auto, unfolding(end_model::specs::Connecting::linked_up))]
+#[tactic(auto, unfolding(tunnel_calls::specs::Replays::replays, end_model::specs::Connecting::linked_up))]
 pub(crate) fn link_up(
     turn: &mut Turn,
     role: Role,
@@ -253,6 +268,7 @@ pub(crate) fn link_up(
     session: u16,
     call: &Call,
 ) -> Result<(), NoMemory>
+    requires replays { replays call.now ≡ true }
     ensures { OnOk result (turn.new ≡ linked_up role sequenced session call.now turn.old) }
 {
     let event = CallEvent::IccnAcc;

@@ -8,7 +8,7 @@ ghost use Rattle.end_model.specs.Tunnels.{turn_of};
 ghost use Rattle.end_model.specs.Turn.{with_turn};
 ghost use Rattle.end_model.specs.Events.{turns, with_calls, tunnel_after};
 ghost use Rattle.tunnel_timers.specs.Due.{IsNoLater, tunnel_due};
-ghost use Rattle.tunnel_core.specs.Cores.{tunnel_of, made_of, AllHaveRoom, HasRoomFor, IsTurn};
+ghost use Rattle.tunnel_core.specs.Cores.{tunnel_of, made_of, AllHaveRoom, AllCallsReplay, HasRoomFor, IsTurn};
 
 use crate::env::Env;
 use crate::events::run;
@@ -256,7 +256,8 @@ fn give_back(calls: &mut TunnelCalls, ended: &[u32])
 /// Puts each of these calls into a table that has room for it, or takes it out where it ended. It takes no memory.
 #[tactic(auto, unfolding(end_model::specs::Events::with_calls))]
 fn put_all(calls: &mut TunnelCalls, changed: Changed)
-    requires { AllHaveRoom calls.old changed }
+    requires room { AllHaveRoom calls.old changed }
+    requires replays { AllCallsReplay changed }
     ensures { calls.new.entries ≡ with_calls changed calls.old.entries }
 {
     for (session, call) in changed.into_vec() {

@@ -1,9 +1,10 @@
 //! Calls that ring, and are asked for (RFC 2661 section 7.4.1).
 
-ghost use Rattle.std.specs.Prelude.{◌≡◌, OnOk, IsTrue};
+ghost use Rattle.std.specs.Prelude.{◌≡◌, OnOk, IsTrue, true};
 ghost use Rattle.id_source.specs.Spaces.{takes_id};
 ghost use Rattle.end_model.specs.Channels.{has_room};
 ghost use Rattle.end_model.specs.Ringing.{requested, requests, requests_all, adds, rings_over, rings_within, rings_new, rings};
+ghost use Rattle.tunnel_calls.specs.Replays.{replays};
 
 use crate::openings::open_as;
 use crate::turn::Turn;
@@ -26,7 +27,8 @@ fn request_now(
     session: u16,
     call: &Call,
 ) -> Result<(), NoMemory>
-    requires { IsTrue (has_room turn.old.control) }
+    requires room { IsTrue (has_room turn.old.control) }
+    requires replays { replays call.now ≡ true }
     ensures { OnOk result (turn.new ≡ requested role config.now session call.now turn.old) }
 {
     let given = turn.next_place();
@@ -69,6 +71,7 @@ fn request(
     session: u16,
     call: &Call,
 ) -> Result<(), NoMemory>
+    requires replays { replays call.now ≡ true }
     ensures { OnOk result (turn.new ≡ requests role config.now session call.now turn.old) }
 {
     let (_, action) = call_row(role, call.state, CallEvent::TunnelOpen);

@@ -1,10 +1,11 @@
 //! What is due in a tunnel as time passes (RFC 2661 sections 5.8 and 6.5).
 
-ghost use Rattle.std.specs.Prelude.{◌≡◌, OnOk, IsTrue};
+ghost use Rattle.std.specs.Prelude.{◌≡◌, OnOk, IsTrue, true, IfSome};
 ghost use Rattle.std.specs.Option.{option_copied};
 ghost use Rattle.id_table.specs.Ids.{ids_of};
 ghost use Rattle.end_model.specs.Channels.{has_room};
 ghost use Rattle.end_model.specs.Ticking.{clears, greeted, greets, limits_at, limits_all, goes_quietly, ticks};
+ghost use Rattle.tunnel_calls.specs.Replays.{replays};
 
 use crate::closing::end_by;
 use crate::links::tick_link;
@@ -71,6 +72,7 @@ fn limit_at(
     id: u32,
     call: Option<&Call>,
 ) -> Result<(), NoMemory>
+    requires replays { IfSome (option_copied call) (λ c. replays c ≡ true) }
     ensures { OnOk result (turn.new ≡ limits_at role letters.now.letters id (option_copied call.entry) turn.old) }
 {
     let Some(call) = call else {

@@ -1,10 +1,11 @@
 //! A tunnel in a step, with what the step gives so far. What the tunnel stands for is changed only afterwards.
 
-ghost use Rattle.std.specs.Prelude.{◌≡◌, ◌≤◌, ◌<◌, IfOk, OnOk};
+ghost use Rattle.std.specs.Prelude.{◌≡◌, ◌≤◌, ◌<◌, IfOk, OnOk, true};
 ghost use Rattle.id_source.specs.Spaces.{takes_id};
 ghost use Rattle.end_model.specs.Tunnels.{turn_of};
 ghost use Rattle.end_model.specs.Turn.{with_output, with_move, with_change, with_call, with_new, drops, ends_call, ends_all};
 ghost use Rattle.end_model.specs.Openings.{with_local};
+ghost use Rattle.tunnel_calls.specs.Replays.{replays};
 
 use crate::env::{Env, Moves, Outputs};
 use end_model::{Call, Control, Move, Out};
@@ -52,12 +53,13 @@ pub(crate) struct Turn {
 impl Model for Turn {
     ghost use Rattle.std.specs.Prelude.{◌≤◌};
     ghost use Rattle.end_model.specs.Tunnels.{Turn as Known};
+    ghost use Rattle.tunnel_core.specs.Cores.{AllCallsReplay};
 
     ghost Value = { Known };
 
     ghost view = { λ t. record { on = record { moment = t.moment; block = t.block }; ids = record { tunnels = t.tunnels; sessions = t.sessions; recoveries = t.recoveries }; control = t.control; given = t.given; acked = t.acked; took = t.took; cleared = t.cleared; changed = t.changed; added = t.added; outputs = t.outputs; changes = t.changes; moves = t.moves } };
 
-    ghost invariant = { λ t. (t.tunnels.last ≤ 65535) × (t.sessions.last ≤ 65535) };
+    ghost invariant = { λ t. (t.tunnels.last ≤ 65535) × (t.sessions.last ≤ 65535) × AllCallsReplay t.changed };
 }
 
 impl Turn {
@@ -111,6 +113,7 @@ impl Turn {
 
     #[tactic(auto, unfolding(end_model::specs::Turn::with_call))]
     pub(crate) fn change(&mut self, session: u16, call: Call) -> Result<(), NoMemory>
+        requires { replays call ≡ true }
         ensures value { OnOk result (self.new ≡ with_call session call self.old) }
         ensures same { self.new.control ≡ self.old.control }
     {
@@ -120,6 +123,7 @@ impl Turn {
     /// A call is made, whose session is drawn.
     #[tactic(auto, unfolding(end_model::specs::Turn::with_new))]
     pub(crate) fn make(&mut self, session: u16, call: Call) -> Result<(), NoMemory>
+        requires { replays call ≡ true }
         ensures value { OnOk result (self.new ≡ with_new session call self.old) }
         ensures same { self.new.control ≡ self.old.control }
     {

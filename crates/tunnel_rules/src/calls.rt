@@ -1,9 +1,10 @@
 //! The calls of a tunnel: what their tables say of an event (RFC 2661 section 7.4), and how they are made.
 
-ghost use Rattle.std.specs.Prelude.{◌≡◌, ◌<◌, ◌≤◌, if◌then◌else◌, length, None, Err, IfSome, IfOk};
+ghost use Rattle.std.specs.Prelude.{◌≡◌, ◌<◌, ◌≤◌, if◌then◌else◌, length, true, None, Err, IfSome, IfOk};
 ghost use Rattle.wire_base.specs.declared.cause.Cause.TheVariants as causes;
 ghost use Rattle.control_message.specs.Pairs.{IsWritten, hidden_of};
 ghost use Rattle.end_model.specs.Calls.{call_row, rung, advanced, idle_call, asked_for, is_request, is_reply, is_connection, is_clean_up, first_number, number_of, number_after, counted};
+ghost use Rattle.tunnel_calls.specs.Replays.{replays};
 ghost use Rattle.end_model.specs.Reasons.{reason};
 ghost use Rattle.end_model.specs.Asking.{left_of};
 ghost use Rattle.end_model.specs.Messages.{request_of};
@@ -31,7 +32,7 @@ pub fn call_row(role: Role, state: CallState, event: CallEvent) -> (CallState, C
 
 /// The call as its table has it after an event, at a moment.
 #[tactic(auto, unfolding(end_model::specs::Calls::advanced))]
-pub fn advanced(
+fn gone_on(
     alloc: Global,
     role: Role,
     event: CallEvent,
@@ -59,9 +60,28 @@ pub fn advanced(
     })
 }
 
+/// The call as its table has it after an event, at a moment, of one whose rows lead to its state. So do its own.
+#[tactic(auto, using(tunnel_calls::specs::Replays::replays_moved))]
+pub fn advanced(
+    alloc: Global,
+    role: Role,
+    event: CallEvent,
+    moment: u64,
+    call: &Call,
+    remote: u16,
+) -> Result<Call, NoMemory>
+    requires { replays call.now ≡ true }
+    ensures value { IfOk result (λ c. c ≡ advanced role event moment (record call.now { remote = remote })) }
+    ensures replays { IfOk result (λ c. replays c ≡ true) }
+{
+    gone_on(alloc, role, event, moment, call, remote)
+}
+
 /// A call that nothing came to yet.
+#[tactic(auto, unfolding(tunnel_calls::specs::Replays::replays))]
 fn idle_call(alloc: Global, subscriber: [u8; 6]) -> Call
-    ensures { result ≡ idle_call 0 subscriber }
+    ensures value { result ≡ idle_call 0 subscriber }
+    ensures replays { replays result ≡ true }
 {
     Call {
         remote: 0,
@@ -77,7 +97,8 @@ fn idle_call(alloc: Global, subscriber: [u8; 6]) -> Call
 /// A call that a subscriber rings for.
 #[tactic(auto, unfolding(end_model::specs::Calls::rung))]
 pub fn rung(alloc: Global, role: Role, subscriber: [u8; 6], moment: u64) -> Result<Call, NoMemory>
-    ensures { IfOk result (λ c. c ≡ rung role subscriber moment) }
+    ensures value { IfOk result (λ c. c ≡ rung role subscriber moment) }
+    ensures replays { IfOk result (λ c. replays c ≡ true) }
 {
     let idle = idle_call(alloc, subscriber);
     advanced(alloc, role, CallEvent::Ring, moment, &idle, 0)
@@ -86,7 +107,8 @@ pub fn rung(alloc: Global, role: Role, subscriber: [u8; 6], moment: u64) -> Resu
 /// A call that the peer asks for.
 #[tactic(auto, unfolding(end_model::specs::Calls::asked_for))]
 pub fn asked_for(alloc: Global, role: Role, remote: u16, moment: u64) -> Result<Call, NoMemory>
-    ensures { IfOk result (λ c. c ≡ asked_for role remote moment) }
+    ensures value { IfOk result (λ c. c ≡ asked_for role remote moment) }
+    ensures replays { IfOk result (λ c. replays c ≡ true) }
 {
     let idle = idle_call(alloc, [0; 6]);
     advanced(alloc, role, CallEvent::IcrqAcc, moment, &idle, remote)

@@ -5,6 +5,7 @@ use Rattle.end_model.specs.Owing.{owed_at, owed-most, owed-put}
 use Rattle.id_index.specs.Indexes.{IsRelabelled}
 use Rattle.id_index.specs.Firsts.{within_put}
 use Rattle.tunnel_timers.specs.Bounds.{calls_put}
+use Rattle.tunnel_calls.specs.Replays.{all_replay_put}
 use Rattle.tunnel_calls.proofs.Listing.{listed_put}
 use Rattle.tunnel_calls.proofs.TunnelCalls.fill.Goals as goal
 
@@ -39,4 +40,5 @@ invariant_of-self c =
       within_put c.self.inside.table.entries c.args.session c.args.call c.ranges.session.fits c.self.invariant.2,
       listed_put c.self.inside.remotes c.relabel.new.self c.self.inside.table.entries c.args.session c.args.call relabelled c.self.invariant.3,
       calls_put c.self.inside.due c.call_due.result c.min-self-inside.result c.self.inside.table.entries c.args.session c.args.call c.min-self-inside.ensures c.call_due.ensures c.self.invariant.4,
+      all_replay_put c.self.inside.table.entries c.args.session c.args.call c.self.invariant.5 c.requires.replays,
     )

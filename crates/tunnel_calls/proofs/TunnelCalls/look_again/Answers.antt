@@ -10,4 +10,4 @@ invariant_of-self c =
     let due = c.earliest_due-self-inside.ensures
     ∙ ap (λ (ss : List ℕ). bound_of (earliest_at (λ c. call_due c.0 c.1) calls ss)) sessions
     ∙ ap bound_of (earliest_is (λ c. call_due c.0 c.1) calls c.self.invariant.0) in
-    (c.self.invariant.0, c.self.invariant.1, c.self.invariant.2, c.self.invariant.3, subst (λ (d : ℕ). IsNoLater d (calls_due calls)) (sym due) (bound_is_no_later (calls_due calls)))
+    (c.self.invariant.0, c.self.invariant.1, c.self.invariant.2, c.self.invariant.3, subst (λ (d : ℕ). IsNoLater d (calls_due calls)) (sym due) (bound_is_no_later (calls_due calls)), c.self.invariant.5)

@@ -8,6 +8,7 @@ invariant_of-self c = (
   c.self.invariant.2,
   c.make_key.ensures (remotes_of c.self.inside.table.entries) c.self.invariant.3,
   c.self.invariant.4,
+  c.self.invariant.5,
 )
 
 pub invariant_of-self-2 : goal.invariant_of-self-2
@@ -18,4 +19,5 @@ invariant_of-self-2 c =
       c.self.invariant.2,
       c.make_key.ensures (remotes_of c.self.inside.table.entries) c.self.invariant.3,
       c.self.invariant.4,
+      c.self.invariant.5,
     )

@@ -1,9 +1,10 @@
-use Rattle.std.proofs.Common.{sym, ap}
+use Rattle.std.proofs.Common.{sym, ap, subst}
 use Rattle.id_table.specs.Order.{ascends-empty}
 use Rattle.id_index.specs.Firsts.{within_empty}
 use Rattle.end_model.specs.Calls.{owed_by}
 use Rattle.tunnel_timers.specs.Bounds.{calls_none}
 use Rattle.tunnel_calls.specs.Remotes.{remotes_of}
+use Rattle.tunnel_calls.specs.Replays.{AllReplay, all_replay_none}
 use Rattle.tunnel_calls.proofs.Listing.{none_assigned}
 use Rattle.tunnel_calls.proofs.TunnelCalls.new.Goals as goal
 
@@ -14,4 +15,5 @@ invariant_of-result c = (
   within_empty c.new.result.entries c.new.ensures.entries,
   c.new-2.ensures (remotes_of c.new.result.entries) (none_assigned c.new.result.entries c.new.ensures.entries),
   calls_none _ c.new.result.entries c.new.ensures.entries,
+  subst AllReplay (sym c.new.ensures.entries) all_replay_none,
 )

@@ -5,6 +5,7 @@ use Rattle.end_model.specs.Owing.{owed_at, owed-without}
 use Rattle.id_index.specs.Indexes.{IsRelabelled}
 use Rattle.id_index.specs.Firsts.{within_without}
 use Rattle.tunnel_timers.specs.Bounds.{calls_without}
+use Rattle.tunnel_calls.specs.Replays.{all_replay_without}
 use Rattle.tunnel_calls.proofs.Listing.{listed_without}
 use Rattle.tunnel_calls.proofs.TunnelCalls.vacate.Goals as goal
 
@@ -28,4 +29,5 @@ invariant_of-self c =
       within_without c.self.inside.table.entries c.args.session c.ranges.session.fits c.self.invariant.2,
       listed_without c.self.inside.remotes c.relabel.new.self c.self.inside.table.entries c.args.session c.self.invariant.0 relabelled c.self.invariant.3,
       calls_without c.self.inside.due c.self.inside.table.entries c.args.session c.self.invariant.4,
+      all_replay_without c.self.inside.table.entries c.args.session c.self.invariant.0 c.self.invariant.5,
     )
