@@ -15,7 +15,7 @@ use wire_base::{Failed, NoMemory};
 
 /// A file of the system, opened at its first call, and made where it isn't there. No call takes memory, so there is always
 /// room. Another process that holds the file makes the opening fail. After an opening or a sync that failed each later
-/// call fails: what the system then gives of the file may not be on the device.
+/// call fails, and with the same error: what the system then gives of the file may not be on the device.
 #[derive(Drop)]
 pub struct FileDisk<R: Files<File = File>> {
     system: R,
@@ -23,12 +23,13 @@ pub struct FileDisk<R: Files<File = File>> {
     file: Option<File>,
     is_refused: bool,
     faults: u64,
+    last_error: Option<io::Error>,
 }
 
 impl<R: Files<File = File>> FileDisk<R> {
     /// A disk whose file isn't open yet.
     pub fn new(system: R, path: String) -> FileDisk<R>
-        ensures { result ≡ record { system = system; path = path; file = None; is_refused = false; faults = 0 } }
+        ensures { result ≡ record { system = system; path = path; file = None; is_refused = false; faults = 0; last_error = None } }
     {
         FileDisk {
             system,
@@ -36,6 +37,7 @@ impl<R: Files<File = File>> FileDisk<R> {
             file: None,
             is_refused: false,
             faults: 0,
+            last_error: None,
         }
     }
 
@@ -47,7 +49,7 @@ impl<R: Files<File = File>> FileDisk<R> {
         ensures faults { self.new.faults ≡ self.old.faults }
     {
         if self.is_refused {
-            return Err(ErrorKind::Other.into());
+            return Err(self.last_error.unwrap_or(ErrorKind::Other.into()));
         }
         if self.file.is_none() {
             let opened = open(&self.system, self.path.as_str());
@@ -125,14 +127,20 @@ impl<R: Files<File = File>> FileDisk<R> {
         synced
     }
 
-    /// Counts a fault.
-    fn fail(&mut self) -> Failed
+    /// Counts a fault, and keeps its error.
+    fn fail(&mut self, error: io::Error) -> Failed
         ensures rose { Rose self.old.faults self.new.faults }
         ensures later { self.old.faults ≤ self.new.faults }
         ensures refused { self.new.is_refused ≡ self.old.is_refused }
     {
         self.faults = self.faults.saturating_add(1);
+        self.last_error = Some(error);
         Failed
+    }
+
+    /// The system's error of the last fault, where there was one. A disk that is refused keeps the one for which it is.
+    pub fn last_error(&self) -> Option<io::Error> {
+        self.last_error
     }
 }
 
@@ -148,7 +156,7 @@ impl<R: Files<File = File>> Disk for FileDisk<R> {
     fn len(&mut self) -> Result<u64, Failed> {
         match self.try_len() {
             Ok(len) => Ok(len),
-            Err(_) => Err(self.fail()),
+            Err(error) => Err(self.fail(error)),
         }
     }
 
@@ -159,28 +167,28 @@ impl<R: Files<File = File>> Disk for FileDisk<R> {
     fn read(&mut self, at: u64, buf: &mut [u8]) -> Result<usize, Failed> {
         match self.try_read(at, buf) {
             Ok(count) => Ok(count),
-            Err(_) => Err(self.fail()),
+            Err(error) => Err(self.fail(error)),
         }
     }
 
     fn write_at(&mut self, at: u64, piece: &[u8]) -> Result<(), Failed> {
         match self.try_write(at, piece) {
             Ok(()) => Ok(()),
-            Err(_) => Err(self.fail()),
+            Err(error) => Err(self.fail(error)),
         }
     }
 
     fn cut(&mut self, len: u64) -> Result<(), Failed> {
         match self.try_cut(len) {
             Ok(()) => Ok(()),
-            Err(_) => Err(self.fail()),
+            Err(error) => Err(self.fail(error)),
         }
     }
 
     fn sync(&mut self) -> Result<(), Failed> {
         match self.try_sync() {
             Ok(()) => Ok(()),
-            Err(_) => Err(self.fail()),
+            Err(error) => Err(self.fail(error)),
         }
     }
 }

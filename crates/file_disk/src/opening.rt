@@ -11,7 +11,10 @@ use std::rt::Files;
 fn lock(file: &File) -> io::Result<()> {
     match file.try_lock() {
         Ok(()) => Ok(()),
-        Err(TryLockError::WouldBlock) => Err(ErrorKind::WouldBlock.into()),
+        Err(TryLockError::WouldBlock) => Err(io::Error::new(
+            ErrorKind::WouldBlock,
+            "another process holds the file",
+        )),
         Err(TryLockError::Error(e)) => Err(e),
     }
 }

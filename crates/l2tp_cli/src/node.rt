@@ -5,10 +5,11 @@ use block_source::{generator_of_file, seeded};
 use file_disk::FileDisk;
 use node_top::{NodeExit, node_top};
 use node_words::{Plan, read_plan};
-use port_traits::{StdSink, write_all};
+use port_traits::{Sink, StdSink, write_all};
 use rand_chacha::ChaCha20Rng;
 use real_ports::{RestingClock, StdClock, UdpLink, Watch, Watched};
 use std::alloc::Global;
+use std::io;
 use std::net::Net;
 use stream_ports::{UnixEther, UnixUplink};
 use wire_base::NoMemory;
@@ -51,6 +52,29 @@ fn uplink_at<'a, R: Net + Drop>(
     }
 }
 
+/// The system's error of the last fault of the Ethernet port, where there was one.
+fn ether_error<R: Net + Drop>(ether: &Option<Watched<'_, UnixEther<R>>>) -> Option<io::Error> {
+    match ether {
+        Some(watched) => watched.port().last_error(),
+        None => None,
+    }
+}
+
+/// The system's error of the last fault of the uplink, where there was one.
+fn uplink_error<R: Net + Drop>(uplink: &Option<Watched<'_, UnixUplink<R>>>) -> Option<io::Error> {
+    match uplink {
+        Some(watched) => watched.port().last_error(),
+        None => None,
+    }
+}
+
+/// Tells a log, in a line, the system's words for what failed. The line is left out where the log fails, or memory is wanting for it.
+fn tell_error<K: Sink>(alloc: Global, log: &mut K, error: io::Error) {
+    if let Ok(line) = format!(in alloc; "system error: {error}\n") {
+        let _written = write_all(log, line.as_bytes());
+    }
+}
+
 /// Where the real objects of a node are.
 #[derive(Drop)]
 struct Places {
@@ -61,7 +85,8 @@ struct Places {
     uplink: Option<String>,
 }
 
-/// Runs the words over the objects at these places. Each is opened at its first call, so that words without a plan touch none.
+/// Runs the words over the objects at these places. Each is opened at its first call, so that words without a plan touch none. The first
+/// fault of one of them ends the run, so at most one has an error of the system to tell.
 fn run_over(rt: &HostRuntime, words: &[String], places: Places, generator: ChaCha20Rng) -> u8 {
     let alloc = rt.alloc();
     let watch = Watch::new();
@@ -77,7 +102,7 @@ fn run_over(rt: &HostRuntime, words: &[String], places: Places, generator: ChaCh
     let mut generator = generator;
     let mut sink = StdSink::new(rt.stdout());
     let mut log = StdSink::new(rt.stderr());
-    node_top(
+    let exit = node_top(
         alloc,
         words,
         VERSION,
@@ -89,14 +114,25 @@ fn run_over(rt: &HostRuntime, words: &[String], places: Places, generator: ChaCh
         &mut generator,
         &mut sink,
         &mut log,
-    )
-    .status()
+    );
+    let error = disk.last_error().or(link.port().last_error());
+    let error = error.or(ether_error(&ether)).or(uplink_error(&uplink));
+    if let Some(error) = error {
+        tell_error(alloc, &mut log, error);
+    }
+    exit.status()
 }
 
-/// Tells that the seed can't be read.
-fn tell_seed_fault(rt: &HostRuntime) -> u8 {
+/// The line of a seed that can't be read.
+const SEED_FAULT_TEXT: &[u8] = b"seed fault\n";
+
+/// Tells that the seed can't be read; and the log why.
+fn tell_seed_fault(rt: &HostRuntime, error: io::Error) -> u8 {
+    let mut log = StdSink::new(rt.stderr());
+    let _written = write_all(&mut log, SEED_FAULT_TEXT);
+    tell_error(rt.alloc(), &mut log, error);
     let mut sink = StdSink::new(rt.stdout());
-    match write_all(&mut sink, b"seed fault\n") {
+    match write_all(&mut sink, SEED_FAULT_TEXT) {
         Ok(()) => SEED_FAULT,
         Err(_) => NodeExit::WriteFault.status(),
     }
@@ -109,7 +145,7 @@ fn run_plan(rt: &HostRuntime, words: &[String], plan: Plan) -> u8 {
         None => "/dev/urandom",
     };
     match generator_of_file(rt, seed) {
-        Err(_) => tell_seed_fault(rt),
+        Err(error) => tell_seed_fault(rt, error),
         Ok(generator) => {
             let places = Places {
                 listen: plan.listen,

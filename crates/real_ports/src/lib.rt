@@ -1,5 +1,5 @@
 //! A node's link over a UDP socket, the system's clock, and a clock that rests while nothing comes. The link tells nothing of
-//! what the network holds, and counts an error of its socket as a fault.
+//! what the network holds, and counts an error of its socket as a fault, and keeps the last one.
 #![tactic(auto)]
 
 mod clocks;

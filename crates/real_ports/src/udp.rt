@@ -8,7 +8,7 @@ use std::io;
 use std::io::ErrorKind;
 use std::net::{Ipv4Addr, Net, SocketAddr, SocketAddrV4, UdpSocket};
 use std::os::fd::AsRawFd;
-use stream_ports::counted;
+use stream_ports::Faults;
 use wire_base::Failed;
 
 /// How many datagrams from another port are passed over in one call.
@@ -29,7 +29,7 @@ pub struct UdpLink<R: Net> {
     listen: u32,
     port: u16,
     socket: Option<UdpSocket>,
-    faults: u64,
+    faults: Faults,
 }
 
 impl<R: Net> UdpLink<R> {
@@ -42,7 +42,7 @@ impl<R: Net> UdpLink<R> {
             listen,
             port,
             socket: None,
-            faults: 0,
+            faults: Faults::new(),
         }
     }
 }
@@ -134,6 +134,11 @@ impl<R: Net> UdpLink<R> {
             None => Ok(()),
         }
     }
+
+    /// The system's error of the last fault, where there was one.
+    pub fn last_error(&self) -> Option<io::Error> {
+        self.faults.last_error()
+    }
 }
 
 impl<R: Net> Link for UdpLink<R> {
@@ -141,12 +146,12 @@ impl<R: Net> Link for UdpLink<R> {
 
     fn recv(&mut self, buf: &mut [u8; 2048]) -> Result<Option<Arrived>, Failed> {
         let answer = self.take_in(buf);
-        counted(&mut self.faults, answer)
+        self.faults.counted(answer)
     }
 
     fn send(&mut self, peer: u32, bytes: &[u8]) -> Result<(), Failed> {
         let answer = self.give_out(peer, bytes);
-        counted(&mut self.faults, answer)
+        self.faults.counted(answer)
     }
 }
 

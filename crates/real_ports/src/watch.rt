@@ -114,6 +114,13 @@ pub struct Watched<'a, P: Descriptor> {
 }
 
 impl<'a, P: Descriptor> Watched<'a, P> {
+    /// The port.
+    pub fn port(&self) -> &P
+        ensures { result.now ≡ self.now.port }
+    {
+        &self.port
+    }
+
     /// Notes what the port stands on, and whether it gave something.
     fn note(&self, gave: bool) {
         self.descriptor.set(self.port.descriptor());

@@ -2,10 +2,11 @@
 
 ghost use Rattle.std.specs.Prelude.{◌≡◌, ◌≤◌, IfOk, IfSome};
 
-use crate::faults::counted;
+use crate::faults::Faults;
 use crate::messages::Messages;
 use port_traits::{Ether, Lowered, Uplink, copy_front};
 use std::alloc::Global;
+use std::io;
 use std::net::Net;
 use wire_base::{Failed, NoMemory, take_u16};
 
@@ -14,7 +15,7 @@ use wire_base::{Failed, NoMemory, take_u16};
 #[derive(Drop)]
 pub struct UnixEther<R: Net + Drop> {
     messages: Messages<R>,
-    faults: u64,
+    faults: Faults,
 }
 
 impl<R: Net + Drop> UnixEther<R> {
@@ -24,7 +25,7 @@ impl<R: Net + Drop> UnixEther<R> {
     {
         Ok(UnixEther {
             messages: Messages::new(alloc, system, path)?,
-            faults: 0,
+            faults: Faults::new(),
         })
     }
 }
@@ -34,7 +35,7 @@ impl<R: Net + Drop> Ether for UnixEther<R> {
 
     fn recv(&mut self, buf: &mut [u8; 2048]) -> Result<Option<usize>, Failed> {
         let answer = self.messages.next();
-        let Some(len) = counted(&mut self.faults, answer)? else {
+        let Some(len) = self.faults.counted(answer)? else {
             return Ok(None);
         };
         Ok(Some(copy_front(buf, self.messages.body(len))))
@@ -42,7 +43,7 @@ impl<R: Net + Drop> Ether for UnixEther<R> {
 
     fn send(&mut self, frame: &[u8]) -> Result<(), Failed> {
         let answer = self.messages.give(&[], frame);
-        counted(&mut self.faults, answer)
+        self.faults.counted(answer)
     }
 }
 
@@ -51,7 +52,7 @@ impl<R: Net + Drop> Ether for UnixEther<R> {
 #[derive(Drop)]
 pub struct UnixUplink<R: Net + Drop> {
     messages: Messages<R>,
-    faults: u64,
+    faults: Faults,
 }
 
 impl<R: Net + Drop> UnixUplink<R> {
@@ -61,7 +62,7 @@ impl<R: Net + Drop> UnixUplink<R> {
     {
         Ok(UnixUplink {
             messages: Messages::new(alloc, system, path)?,
-            faults: 0,
+            faults: Faults::new(),
         })
     }
 }
@@ -80,7 +81,7 @@ impl<R: Net + Drop> Uplink for UnixUplink<R> {
 
     fn recv(&mut self, buf: &mut [u8; 2048]) -> Result<Option<Lowered>, Failed> {
         let answer = self.messages.next();
-        let Some(len) = counted(&mut self.faults, answer)? else {
+        let Some(len) = self.faults.counted(answer)? else {
             return Ok(None);
         };
         Ok(session_of(self.messages.body(len), buf))
@@ -88,7 +89,7 @@ impl<R: Net + Drop> Uplink for UnixUplink<R> {
 
     fn send(&mut self, session: u16, frame: &[u8]) -> Result<(), Failed> {
         let answer = self.messages.give(&session.to_be_bytes(), frame);
-        counted(&mut self.faults, answer)
+        self.faults.counted(answer)
     }
 }
 
@@ -97,11 +98,21 @@ impl<R: Net + Drop> UnixEther<R> {
     pub fn descriptor(&self) -> i32 {
         self.messages.descriptor()
     }
+
+    /// The system's error of the last fault, where there was one.
+    pub fn last_error(&self) -> Option<io::Error> {
+        self.faults.last_error()
+    }
 }
 
 impl<R: Net + Drop> UnixUplink<R> {
     /// The system's descriptor, or -1 where the stream isn't connected yet.
     pub fn descriptor(&self) -> i32 {
         self.messages.descriptor()
+    }
+
+    /// The system's error of the last fault, where there was one.
+    pub fn last_error(&self) -> Option<io::Error> {
+        self.faults.last_error()
     }
 }
