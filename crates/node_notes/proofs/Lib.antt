@@ -1,2 +1,3 @@
-pub mod Quiet
-pub mod Records
+mod Lines
+mod Quiet
+mod Records

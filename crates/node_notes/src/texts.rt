@@ -1,6 +1,6 @@
 //! Lines. Each is appended to the text before it; where memory is wanting, a part of it may be.
 
-ghost use Rattle.std.specs.Prelude.{◌≡◌, ◌++◌, OnOk, option_to_list};
+ghost use Rattle.std.specs.Prelude.{◌≡◌, ◌≢◌, ◌<◌, [], ◌++◌, length, OnOk, OnErr, option_to_list};
 ghost use Rattle.std.specs.List.{flat_map};
 ghost use Rattle.node_notes.specs.Texts.{tunnel_up_text, tunnel_text, tunnel_closed_text, told_text, call_up_words, call_up_text, gone_words, gone_text, note_text, notes_text};
 
@@ -132,8 +132,10 @@ fn push_note(out: &mut Bytes, note: &Note) -> Result<(), NoMemory>
 }
 
 /// The line of a note, if there is one.
+#[tactic(auto, using(crate::proofs::Lines::no_line_is_empty))]
 fn push_if_any(out: &mut Bytes, note: &Option<Note>) -> Result<(), NoMemory>
-    ensures { OnOk result (out.new ≡ out.old ++ flat_map note_text (option_to_list note.now)) }
+    ensures ok { OnOk result (out.new ≡ out.old ++ flat_map note_text (option_to_list note.now)) }
+    ensures err { OnErr result (0 < length (flat_map note_text (option_to_list note.now))) }
 {
     match note {
         Some(note) => push_note(out, note),
@@ -142,11 +144,12 @@ fn push_if_any(out: &mut Bytes, note: &Option<Note>) -> Result<(), NoMemory>
 }
 
 /// Appends the lines that an operator reads of a step, by its moves and its outputs: `docs/notes.md` has their forms. A step by which
-/// neither a tunnel nor a call of the end comes up or ends has none, and takes no memory. Where memory is wanting a part of the lines
-/// may be appended, and whoever asked for them drops them.
+/// neither a tunnel nor a call of the end comes up or ends has none, and takes no memory. Where memory is wanting, for a line that
+/// there is, a part of the lines may be appended, and whoever asked for them drops them.
 #[tactic(auto, unfolding(crate::specs::Notes::notes_by))]
 pub fn push_notes(out: &mut Bytes, moves: &[Move], outputs: &[Out]) -> Result<(), NoMemory>
-    ensures { OnOk result (out.new ≡ out.old ++ notes_text moves.now outputs.now) }
+    ensures ok { OnOk result (out.new ≡ out.old ++ notes_text moves.now outputs.now) }
+    ensures err { OnErr result (notes_text moves.now outputs.now ≢ []) }
 {
     let mut left = outputs;
     for step in moves {

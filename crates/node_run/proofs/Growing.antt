@@ -37,7 +37,7 @@ taken_grows text s t (inr h) = (take h.1.0 text, h.1.1)
 
 pub noted_grows : (lines : List ℕ) (s t : Sunk) → Noted lines s t → Grows s t
 noted_grows lines s t (inl h) = taken_grows lines s t h.takes
-noted_grows lines s t (inr h) = taken_grows lost_text s t h.takes
+noted_grows lines s t (inr h) = taken_grows lost_text s t h.1.takes
 
 halt_grows : (stop : NodeStop) (lines : List ℕ) (s t : Sunk) → HaltNoted stop lines s t → Grows s t
 halt_grows (Store stop) lines s t h = subst (Grows s) (sym h) (grows_same s)

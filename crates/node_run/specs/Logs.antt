@@ -1,5 +1,5 @@
 -- What a node's log is told.
-use Rattle.std.specs.Prelude.{◌≡◌, ◌⊎◌, ℕ, List, [], take, codes, Option}
+use Rattle.std.specs.Prelude.{◌≡◌, ◌≢◌, ◌⊎◌, ℕ, List, [], take, codes, Option}
 use Rattle.std.specs.Io.KnownBytes.{Appends}
 use Rattle.wire_base.specs.Causes.{Rose}
 
@@ -36,6 +36,6 @@ LogsStay = (s : Sunk) → Grows s s
 abbrev pub LogsGrow : Type 0
 LogsGrow = (s t u : Sunk) → Grows s t → Grows t u → Grows s u
 
--- the lines were written, or memory was wanting for them
+-- the lines were written; or there are some, and memory was wanting for them
 abbrev pub Noted : List ℕ → Sunk → Sunk → Type 0
-Noted lines old new = Writes lines old new ⊎ Writes lost_text old new
+Noted lines old new = Writes lines old new ⊎ ((lines ≢ []) × Writes lost_text old new)

@@ -1,6 +1,6 @@
 //! What a node's log is told. It has no say in what the node does: neither a log that fails nor want of memory for its lines ends anything.
 
-ghost use Rattle.std.specs.Prelude.{◌≡◌, IfOk};
+ghost use Rattle.std.specs.Prelude.{◌≡◌, ◌≢◌, [], IfOk, OnErr};
 ghost use Rattle.node_notes.specs.Texts.{notes_text};
 ghost use Rattle.node_run.specs.Logs.{sunk, lost_text, Writes, Noted, LogsStay, LogsGrow};
 
@@ -31,14 +31,15 @@ pub fn write_lost<K: Sink>(log: &mut K)
 
 /// The lines of a step, by its moves and its outputs.
 fn step_lines(alloc: Global, moves: &[Move], outputs: &[Out]) -> Result<Bytes, NoMemory>
-    ensures { IfOk result (λ lines. lines ≡ notes_text moves.now outputs.now) }
+    ensures ok { IfOk result (λ lines. lines ≡ notes_text moves.now outputs.now) }
+    ensures err { OnErr result (notes_text moves.now outputs.now ≢ []) }
 {
     let mut lines = Bytes::new(alloc);
     push_notes(&mut lines, moves, outputs)?;
     Ok(lines)
 }
 
-/// Tells a log of a step that was made, by its moves and its outputs.
+/// Tells a log of a step that was made, by its moves and its outputs. A step without lines leaves it as it was.
 pub(crate) fn note_step<K: Sink>(alloc: Global, log: &mut K, moves: &[Move], outputs: &[Out])
     ensures { Noted (notes_text moves.now outputs.now) (sunk (K.faults log.old) (K.taken log.old)) (sunk (K.faults log.new) (K.taken log.new)) }
 {

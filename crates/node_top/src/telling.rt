@@ -1,6 +1,6 @@
 //! What a node writes at its end.
 
-ghost use Rattle.std.specs.Prelude.{◌≡◌, ◌++◌, IfOk, OnOk, codes};
+ghost use Rattle.std.specs.Prelude.{◌≡◌, ◌≢◌, [], ◌++◌, IfOk, OnOk, OnErr, codes};
 ghost use Rattle.node_top.specs.Texts.{number_line, counts_text, exit_text};
 
 use crate::exit::NodeExit;
@@ -41,7 +41,8 @@ fn line_of(alloc: Global, word: &[u8], number: u64) -> Result<Bytes, NoMemory>
 
 /// The line of a node that ended early, nothing where memory was wanting.
 pub(crate) fn exit_text(alloc: Global, exit: NodeExit) -> Result<Bytes, NoMemory>
-    ensures { IfOk result (λ text. text ≡ exit_text exit) }
+    ensures ok { IfOk result (λ text. text ≡ exit_text exit) }
+    ensures err { OnErr result (exit_text exit ≢ []) }
 {
     match exit {
         NodeExit::NotJournal { at } => line_of(alloc, b"not a journal: ", at),
