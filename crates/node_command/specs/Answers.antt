@@ -1,26 +1,30 @@
 -- How `pool` ends.
-use Rattle.std.specs.Prelude.{◌≡◌, ◌⊎◌, ◌||◌, ℕ, List, drop, codes, String, string_bytes, Bool, true, false}
-use Rattle.std.specs.List.{list_any}
-use Rattle.std.specs.Str.{bytes_eq}
+use Rattle.std.specs.Prelude.{◌≡◌, ◌⊎◌, ℕ, List, take, codes, Bool, true, false, Option, Some, None}
+use Rattle.std.specs.Io.KnownBytes.{Appends}
 use Rattle.wire_base.specs.Causes.{Rose}
 use Rattle.node_command.specs.declared.answering.Answered.{Answered}
 use Rattle.node_command.specs.declared.answering.Answered.TheVariants as answered
 
--- whether a text is asked for: a word behind the command is `--help` or `--version`
-abbrev pub asks : {A : Type 0} → List (String A) → Bool
-asks words =
-    list_any (λ w. bytes_eq (string_bytes w) (codes "--help")) (drop 1 words)
-    || list_any (λ w. bytes_eq (string_bytes w) (codes "--version")) (drop 1 words)
+-- how often a sink failed, and what it took, where it tells it
+pub record Told : Type 0 where
+  pub faults : ℕ
+  pub taken : Option (List ℕ)
 
-abbrev pub answered_by : Bool → Answered
-answered_by true = answered.Told
-answered_by false = answered.Usage
+abbrev pub told : ℕ → Option (List ℕ) → Told
+told faults taken = record { faults = faults; taken = taken }
 
--- a text was written, or the sink failed
-abbrev pub Writes : Answered → Answered → ℕ → ℕ → Type 0
-Writes result a before after = ((result ≡ a) × (after ≡ before)) ⊎ ((result ≡ answered.WriteFault) × Rose before after)
+-- a text was written, and this is the answer; or the sink failed, and took a front of it
+abbrev pub Writes : Answered → Answered → List ℕ → Told → Told → Type 0
+Writes result a text old new =
+    ((result ≡ a) × (new.faults ≡ old.faults) × Appends old.taken new.taken text)
+    ⊎ ((result ≡ answered.WriteFault) × Rose old.faults new.faults × ((n : ℕ) × Appends old.taken new.taken (take n text)))
 
--- the answer tells whether a text was asked for; or the sink failed; or memory was wanting where none was asked for
-abbrev pub Answers : Bool → Answered → ℕ → ℕ → Type 0
-Answers asked result before after =
-    Writes result (answered_by asked) before after ⊎ ((result ≡ answered.NoMemory) × (asked ≡ false) × (after ≡ before))
+-- memory was wanting, and nothing was written
+abbrev pub Lacks : Answered → Told → Told → Type 0
+Lacks result old new = (result ≡ answered.NoMemory) × (new ≡ old)
+
+-- A text that is asked for is written, and of words that are no plan, how the command is used; of a plan nothing, since it can't be run.
+abbrev pub Answers : Option (List ℕ) → Bool → Answered → Told → Told → Type 0
+Answers (Some text) is_plan result old new = Writes result answered.Told text old new
+Answers None false result old new = Writes result answered.Usage (codes "usage: l2tp pool\n") old new ⊎ Lacks result old new
+Answers None true result old new = ((result ≡ answered.Usage) × (new ≡ old)) ⊎ Lacks result old new

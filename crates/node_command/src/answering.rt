@@ -1,9 +1,11 @@
 //! Answers to the words of `pool`.
 
-ghost use Rattle.std.specs.Prelude.{◌≡◌, false};
-ghost use Rattle.node_command.specs.Answers.{asks, answered_by, Answers, Writes};
+ghost use Rattle.std.specs.Prelude.{◌≡◌, true, false, None, is_some, map, string_bytes, OnOk, IsErrOf};
+ghost use Rattle.node_words.specs.Helps.{asked_text, pool_help_text};
+ghost use Rattle.node_words.specs.Plans.{plan_of};
+ghost use Rattle.node_command.specs.Answers.{told, Answers, Writes};
 
-use node_words::{POOL_HELP, PlanError, asks_for_help, asks_for_version, read_plan};
+use node_words::{PlanError, asks_for_help, asks_for_version, pool_help, read_plan};
 use port_traits::{Sink, write_all};
 use std::alloc::Global;
 
@@ -26,7 +28,7 @@ const UNBUILT: &[u8] = b"l2tp pool isn't built yet\n";
 
 /// Writes a text, and gives the answer that goes with it, or a write fault.
 fn tell<K: Sink>(sink: &mut K, text: &[u8], answered: Answered) -> Answered
-    ensures { Writes result answered (K.faults sink.old) (K.faults sink.new) }
+    ensures { Writes result answered text.now (told (K.faults sink.old) (K.taken sink.old)) (told (K.faults sink.new) (K.taken sink.new)) }
 {
     match write_all(sink, text) {
         Ok(()) => answered,
@@ -44,6 +46,17 @@ fn warn<E: Sink>(err: &mut E) -> Answered
     }
 }
 
+/// Reads the words for a plan, and lets it go.
+fn look_for_plan(alloc: Global, words: &[String]) -> Result<(), PlanError>
+    ensures plan { OnOk result (is_some (plan_of (map string_bytes words.now)) ≡ true) }
+    ensures usage { IsErrOf result PlanError.Usage → is_some (plan_of (map string_bytes words.now)) ≡ false }
+{
+    match read_plan(alloc, words) {
+        Ok(_) => Ok(()),
+        Err(error) => Err(error),
+    }
+}
+
 /// Answers the words of a plan, or of none.
 fn answer_to_plan<K: Sink, E: Sink>(
     alloc: Global,
@@ -51,10 +64,10 @@ fn answer_to_plan<K: Sink, E: Sink>(
     out: &mut K,
     err: &mut E,
 ) -> Answered
-    ensures { Answers false result (K.faults out.old) (K.faults out.new) }
+    ensures { Answers None (is_some (plan_of (map string_bytes words.now))) result (told (K.faults out.old) (K.taken out.old)) (told (K.faults out.new) (K.taken out.new)) }
 {
-    match read_plan(alloc, words) {
-        Ok(_) => warn(err),
+    match look_for_plan(alloc, words) {
+        Ok(()) => warn(err),
         Err(PlanError::Usage) => tell(out, USAGE, Answered::Usage),
         Err(PlanError::NoMemory) => Answered::NoMemory,
     }
@@ -70,10 +83,10 @@ pub fn answer_words<K: Sink, E: Sink>(
     out: &mut K,
     err: &mut E,
 ) -> Answered
-    ensures { Answers (asks words.now) result (K.faults out.old) (K.faults out.new) }
+    ensures { Answers (asked_text pool_help_text version.now words.now) (is_some (plan_of (map string_bytes words.now))) result (told (K.faults out.old) (K.taken out.old)) (told (K.faults out.new) (K.taken out.new)) }
 {
     if asks_for_help(words) {
-        return tell(out, POOL_HELP.as_bytes(), Answered::Told);
+        return tell(out, pool_help(), Answered::Told);
     }
     if asks_for_version(words) {
         return tell(out, version, Answered::Told);

@@ -1,5 +1,5 @@
 -- How a node ends, by its words and its run, and what the sink and the log were given.
-use Rattle.std.specs.Prelude.{◌≡◌, ◌⊎◌, ℕ, Bool, true, false, List, take, codes, Option, Some, None, Result, Ok, Err, IfOk}
+use Rattle.std.specs.Prelude.{◌≡◌, ◌⊎◌, ℕ, List, take, codes, Option, Some, None, Result, Ok, Err, IfOk}
 use Rattle.std.specs.Io.KnownBytes.{Appends}
 use Rattle.wire_base.specs.Causes.{Rose}
 use Rattle.node_words.specs.Plans.{Planned}
@@ -48,9 +48,9 @@ Untouched log log' old new = (log' ≡ log) × (new ≡ old)
 
 -- What comes of the words of a node. Where a text is asked for, it is written, and where there is no plan, how the command is used; then no
 -- disk, no port and no log is touched, and so it is where memory was wanting for the words.
-abbrev pub NodeEnds : (Planned → Counts → Sunk → Type 0) → Bool → Option Planned → NodeExit → Sunk → Sunk → Sunk → Sunk → Faults → Faults → Type 0
-NodeEnds IsRun true plan result sink sink' log log' old new = (text : List ℕ) × Tells result exits.Ok text sink sink' × Untouched log log' old new
-NodeEnds IsRun false None result sink sink' log log' old new =
+abbrev pub NodeEnds : (Planned → Counts → Sunk → Type 0) → Option (List ℕ) → Option Planned → NodeExit → Sunk → Sunk → Sunk → Sunk → Faults → Faults → Type 0
+NodeEnds IsRun (Some text) plan result sink sink' log log' old new = Tells result exits.Ok text sink sink' × Untouched log log' old new
+NodeEnds IsRun None None result sink sink' log log' old new =
     (Tells result exits.Usage (codes "usage: l2tp node\n") sink sink' ⊎ Lacks result sink sink') × Untouched log log' old new
-NodeEnds IsRun false (Some p) result sink sink' log log' old new =
+NodeEnds IsRun None (Some p) result sink sink' log log' old new =
     RunsPlan (IsRun p) result sink sink' log log' old new ⊎ (Lacks result sink sink' × Untouched log log' old new)

@@ -1,12 +1,12 @@
 //! The call that runs a node.
 
-ghost use Rattle.std.specs.Prelude.{false, map, string_bytes};
+ghost use Rattle.std.specs.Prelude.{None, map, string_bytes};
 ghost use Rattle.port_events.specs.Feeding.{given};
 ghost use Rattle.port_turn.specs.Turns.{waits, asked};
 ghost use Rattle.node_run.specs.Faults.{faults};
 ghost use Rattle.node_run.specs.Logs.{sunk};
+ghost use Rattle.node_words.specs.Helps.{asked_text, node_help_text};
 ghost use Rattle.node_words.specs.Plans.{plan_of};
-ghost use Rattle.node_command.specs.Answers.{asks};
 ghost use Rattle.node_top.specs.Runs.{outside, Ran};
 ghost use Rattle.node_top.specs.Ends.{Tells, Finishes, EndsLog, NodeEnds};
 
@@ -15,7 +15,7 @@ use crate::running::run;
 use crate::telling::{counts_text, exit_text};
 use disk_core::Disk;
 use node_run::{Counts, write_lines, write_lost};
-use node_words::{NODE_HELP, PlanError, asks_for_help, asks_for_version, read_plan};
+use node_words::{PlanError, asks_for_help, asks_for_version, node_help, read_plan};
 use port_traits::{Clock, Ether, Link, Sink, Uplink, write_all};
 use rand_core::Rng;
 use std::alloc::Global;
@@ -74,7 +74,7 @@ fn run_words<L: Link, E: Ether, U: Uplink, D: Disk, C: Clock, R: Rng, K: Sink, O
     sink: &mut K,
     log: &mut O,
 ) -> NodeExit
-    ensures { NodeEnds (λ p counts left. Ran D.holds D.reach D.calls_left D.faults p counts disk.old disk.new (sunk (O.faults log.old) (O.taken log.old)) left (outside (R.stream rng.old) (C.gives clock.old) (given (L.given link.old) (E.given ether.old) (U.given up.old)) (waits (L.waiting link.old) (E.waiting ether.old) (U.waiting up.old)) (asked (L.asked link.old) (E.asked ether.old) (U.asked up.old))) (outside (R.stream rng.new) (C.gives clock.new) (given (L.given link.new) (E.given ether.new) (U.given up.new)) (waits (L.waiting link.new) (E.waiting ether.new) (U.waiting up.new)) (asked (L.asked link.new) (E.asked ether.new) (U.asked up.new)))) false (plan_of (map string_bytes words.now)) result (sunk (K.faults sink.old) (K.taken sink.old)) (sunk (K.faults sink.new) (K.taken sink.new)) (sunk (O.faults log.old) (O.taken log.old)) (sunk (O.faults log.new) (O.taken log.new)) (faults (D.faults disk.old) (L.faults link.old) (E.faults ether.old) (U.faults up.old)) (faults (D.faults disk.new) (L.faults link.new) (E.faults ether.new) (U.faults up.new)) }
+    ensures { NodeEnds (λ p counts left. Ran D.holds D.reach D.calls_left D.faults p counts disk.old disk.new (sunk (O.faults log.old) (O.taken log.old)) left (outside (R.stream rng.old) (C.gives clock.old) (given (L.given link.old) (E.given ether.old) (U.given up.old)) (waits (L.waiting link.old) (E.waiting ether.old) (U.waiting up.old)) (asked (L.asked link.old) (E.asked ether.old) (U.asked up.old))) (outside (R.stream rng.new) (C.gives clock.new) (given (L.given link.new) (E.given ether.new) (U.given up.new)) (waits (L.waiting link.new) (E.waiting ether.new) (U.waiting up.new)) (asked (L.asked link.new) (E.asked ether.new) (U.asked up.new)))) None (plan_of (map string_bytes words.now)) result (sunk (K.faults sink.old) (K.taken sink.old)) (sunk (K.faults sink.new) (K.taken sink.new)) (sunk (O.faults log.old) (O.taken log.old)) (sunk (O.faults log.new) (O.taken log.new)) (faults (D.faults disk.old) (L.faults link.old) (E.faults ether.old) (U.faults up.old)) (faults (D.faults disk.new) (L.faults link.new) (E.faults ether.new) (U.faults up.new)) }
 {
     match read_plan(alloc, words) {
         Ok(plan) => {
@@ -87,8 +87,8 @@ fn run_words<L: Link, E: Ether, U: Uplink, D: Disk, C: Clock, R: Rng, K: Sink, O
 }
 
 /// Runs the node that the words ask for, of which the first is `node`: over a link, an Ethernet port and an uplink, the disk of its store, a
-/// clock, and a generator of random bytes; an operator reads its log. With `--help` or `--version` among the words its help, or this version, is written. Words that are
-/// no plan have how the command is used written.
+/// clock, and a generator of random bytes; an operator reads its log. With `--help` or `--version` among the words behind the first its help,
+/// or this version, is written, and nothing else. Words that are no plan have how the command is used written.
 ///
 /// A node reads the clock once and opens its end over the disk, with the generator's first 16 bytes for the key of a LAC's cookies; what the
 /// start gives goes out. It opens a tunnel where `--open` says so, and makes so many turns. At their end it writes how many turns it made, how
@@ -110,10 +110,10 @@ pub fn node_top<L: Link, E: Ether, U: Uplink, D: Disk, C: Clock, R: Rng, K: Sink
     sink: &mut K,
     log: &mut O,
 ) -> NodeExit
-    ensures { NodeEnds (λ p counts left. Ran D.holds D.reach D.calls_left D.faults p counts disk.old disk.new (sunk (O.faults log.old) (O.taken log.old)) left (outside (R.stream rng.old) (C.gives clock.old) (given (L.given link.old) (E.given ether.old) (U.given up.old)) (waits (L.waiting link.old) (E.waiting ether.old) (U.waiting up.old)) (asked (L.asked link.old) (E.asked ether.old) (U.asked up.old))) (outside (R.stream rng.new) (C.gives clock.new) (given (L.given link.new) (E.given ether.new) (U.given up.new)) (waits (L.waiting link.new) (E.waiting ether.new) (U.waiting up.new)) (asked (L.asked link.new) (E.asked ether.new) (U.asked up.new)))) (asks words.now) (plan_of (map string_bytes words.now)) result (sunk (K.faults sink.old) (K.taken sink.old)) (sunk (K.faults sink.new) (K.taken sink.new)) (sunk (O.faults log.old) (O.taken log.old)) (sunk (O.faults log.new) (O.taken log.new)) (faults (D.faults disk.old) (L.faults link.old) (E.faults ether.old) (U.faults up.old)) (faults (D.faults disk.new) (L.faults link.new) (E.faults ether.new) (U.faults up.new)) }
+    ensures { NodeEnds (λ p counts left. Ran D.holds D.reach D.calls_left D.faults p counts disk.old disk.new (sunk (O.faults log.old) (O.taken log.old)) left (outside (R.stream rng.old) (C.gives clock.old) (given (L.given link.old) (E.given ether.old) (U.given up.old)) (waits (L.waiting link.old) (E.waiting ether.old) (U.waiting up.old)) (asked (L.asked link.old) (E.asked ether.old) (U.asked up.old))) (outside (R.stream rng.new) (C.gives clock.new) (given (L.given link.new) (E.given ether.new) (U.given up.new)) (waits (L.waiting link.new) (E.waiting ether.new) (U.waiting up.new)) (asked (L.asked link.new) (E.asked ether.new) (U.asked up.new)))) (asked_text node_help_text version.now words.now) (plan_of (map string_bytes words.now)) result (sunk (K.faults sink.old) (K.taken sink.old)) (sunk (K.faults sink.new) (K.taken sink.new)) (sunk (O.faults log.old) (O.taken log.old)) (sunk (O.faults log.new) (O.taken log.new)) (faults (D.faults disk.old) (L.faults link.old) (E.faults ether.old) (U.faults up.old)) (faults (D.faults disk.new) (L.faults link.new) (E.faults ether.new) (U.faults up.new)) }
 {
     if asks_for_help(words) {
-        return tell(sink, NODE_HELP.as_bytes(), NodeExit::Ok);
+        return tell(sink, node_help(), NodeExit::Ok);
     }
     if asks_for_version(words) {
         return tell(sink, version, NodeExit::Ok);

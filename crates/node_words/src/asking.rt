@@ -1,11 +1,9 @@
 //! Words that ask for help in place of a run.
 
-ghost use Rattle.std.specs.Prelude.{◌≡◌, drop, codes, string_bytes};
-ghost use Rattle.std.specs.List.{list_any};
-ghost use Rattle.std.specs.Str.{bytes_eq};
+ghost use Rattle.std.specs.Prelude.{◌≡◌, codes};
+ghost use Rattle.node_words.specs.Helps.{has_word, node_help_text, pool_help_text};
 
-/// The help of `l2tp node`.
-pub const NODE_HELP: &str = "\
+const NODE_HELP: &[u8] = b"\
 Runs an L2TP end over UDP.
 
 usage: l2tp node --role lac|lns --number N --listen ADDRESS --store PATH --turns N [OPTION ..]
@@ -25,8 +23,7 @@ usage: l2tp node --role lac|lns --number N --listen ADDRESS --store PATH --turns
   --seed PATH        a file with the 32 bytes of its seed (default /dev/urandom)
 ";
 
-/// The help of `l2tp pool`.
-pub const POOL_HELP: &str = "\
+const POOL_HELP: &[u8] = b"\
 Runs an L2TP end over UDP with a pool of workers.
 
 usage: l2tp pool --role lac|lns --number N --listen ADDRESS --store PATH --turns N [OPTION ..]
@@ -47,16 +44,32 @@ usage: l2tp pool --role lac|lns --number N --listen ADDRESS --store PATH --turns
   --workers N        how many workers it has, 1 to 64 (default 4)
 ";
 
+/// The help of `l2tp node`.
+#[tactic(auto, unfolding(crate::specs::Helps::node_help_text))]
+pub fn node_help() -> &'static [u8]
+    ensures { result.now ≡ node_help_text }
+{
+    NODE_HELP
+}
+
+/// The help of `l2tp pool`.
+#[tactic(auto, unfolding(crate::specs::Helps::pool_help_text))]
+pub fn pool_help() -> &'static [u8]
+    ensures { result.now ≡ pool_help_text }
+{
+    POOL_HELP
+}
+
 /// Whether one of the words behind the command's name is `--help`.
 pub fn asks_for_help(words: &[String]) -> bool
-    ensures { result ≡ list_any (λ w. bytes_eq (string_bytes w) (codes "--help")) (drop 1 words.now) }
+    ensures { result ≡ has_word (codes "--help") words.now }
 {
     words.iter().skip(1).any(|word| word.as_str() == "--help")
 }
 
 /// Whether one of the words behind the command's name is `--version`.
 pub fn asks_for_version(words: &[String]) -> bool
-    ensures { result ≡ list_any (λ w. bytes_eq (string_bytes w) (codes "--version")) (drop 1 words.now) }
+    ensures { result ≡ has_word (codes "--version") words.now }
 {
     words
         .iter()

@@ -6,6 +6,6 @@ mod command;
 mod plan;
 mod reading;
 
-pub use asking::{NODE_HELP, POOL_HELP, asks_for_help, asks_for_version};
+pub use asking::{asks_for_help, asks_for_version, node_help, pool_help};
 pub use plan::{Plan, PlanError};
 pub use reading::read_plan;
