@@ -1,5 +1,5 @@
 -- How a node ends, by its words and its run, and what the sink and the log were given.
-use Rattle.std.specs.Prelude.{◌≡◌, ◌⊎◌, ℕ, List, take, codes, Option, Some, None, Result, Ok, Err, IfOk}
+use Rattle.std.specs.Prelude.{◌≡◌, ◌⊎◌, ℕ, List, take, codes, Option, Some, None, Result, Ok, Err}
 use Rattle.std.specs.Io.KnownBytes.{Appends}
 use Rattle.wire_base.specs.Causes.{Rose}
 use Rattle.node_words.specs.Plans.{Planned}
@@ -33,10 +33,10 @@ EndsLog (Ok counts) old new = new ≡ old
 EndsLog (Err exit) old new = Noted (exit_text exit) old new
 
 -- a plan was run, which left the log so, and this was written of it
-pub record RunsPlan (IsRun : Counts → Sunk → Type 0) (result : NodeExit) (sink sink' log log' : Sunk) (old new : Faults) : Type 0 where
+pub record RunsPlan (IsRun : Result Counts NodeExit → Sunk → Type 0) (result : NodeExit) (sink sink' log log' : Sunk) (old new : Faults) : Type 0 where
   pub ran : Result Counts NodeExit
   pub left : Sunk
-  pub is_run : IfOk ran (λ counts. IsRun counts left)
+  pub is_run : IsRun ran left
   pub grows : Grows log left
   pub blames : RunBlames old new ran
   pub finishes : Finishes ran result sink sink'
@@ -48,7 +48,7 @@ Untouched log log' old new = (log' ≡ log) × (new ≡ old)
 
 -- What comes of the words of a node. Where a text is asked for, it is written, and where there is no plan, how the command is used; then no
 -- disk, no port and no log is touched, and so it is where memory was wanting for the words.
-abbrev pub NodeEnds : (Planned → Counts → Sunk → Type 0) → Option (List ℕ) → Option Planned → NodeExit → Sunk → Sunk → Sunk → Sunk → Faults → Faults → Type 0
+abbrev pub NodeEnds : (Planned → Result Counts NodeExit → Sunk → Type 0) → Option (List ℕ) → Option Planned → NodeExit → Sunk → Sunk → Sunk → Sunk → Faults → Faults → Type 0
 NodeEnds IsRun (Some text) plan result sink sink' log log' old new = Tells result exits.Ok text sink sink' × Untouched log log' old new
 NodeEnds IsRun None None result sink sink' log log' old new =
     (Tells result exits.Usage (codes "usage: l2tp node\n") sink sink' ⊎ Lacks result sink sink') × Untouched log log' old new

@@ -1,5 +1,5 @@
 -- The run of a plan, and why it ends early.
-use Rattle.std.specs.Prelude.{◌≡◌, ℕ, Bool, List, Option, option_map, unwrap_or, Result, Ok, Err}
+use Rattle.std.specs.Prelude.{◌≡◌, ◌⊎◌, ℕ, Bool, List, Option, option_map, unwrap_or, Result, Ok, Err}
 use Rattle.rand_core.specs.Stream.{Stream, fill_bytes}
 use Rattle.wire_base.specs.Causes.{Rose}
 use Rattle.disk_core.specs.Disk.{Held}
@@ -8,6 +8,7 @@ use Rattle.port_events.specs.declared.end.Event.{Event}
 use Rattle.port_events.specs.declared.end.Out.{Out}
 use Rattle.port_events.specs.declared.giving.TurnFault.{TurnFault}
 use Rattle.port_events.specs.declared.giving.TurnFault.TheVariants as turn
+use Rattle.port_events.specs.Giving.{IsCut}
 use Rattle.port_events.specs.Feeding.{Given, Goes}
 use Rattle.port_turn.specs.Turns.{Waits, Asked}
 use Rattle.port_turn.specs.Runs.{Node, node}
@@ -21,11 +22,11 @@ use Rattle.node_run.specs.declared.faults.NodeFault.TheVariants as node_fault
 use Rattle.node_run.specs.declared.lending.Counts.{Counts}
 use Rattle.node_run.specs.declared.opening.NodeUnopened.{NodeUnopened}
 use Rattle.node_run.specs.declared.opening.NodeUnopened.TheVariants.{Shut, Unsent}
-use Rattle.node_run.specs.Faults.{Faults}
+use Rattle.node_run.specs.Faults.{Faults, node_fault as fault_of}
 use Rattle.node_run.specs.Logs.{Sunk}
-use Rattle.node_run.specs.Opening.{NodeOpens}
-use Rattle.node_run.specs.Serves.{Serves}
-use Rattle.node_run.specs.Steps.{running, NodeSteps}
+use Rattle.node_run.specs.Opening.{NodeOpens, StaysShut}
+use Rattle.node_run.specs.Serves.{Serves, EndsShort}
+use Rattle.node_run.specs.Steps.{Running, running, NodeSteps, NodeStops}
 use Rattle.node_top.specs.declared.exit.NodeExit.{NodeExit}
 use Rattle.node_top.specs.declared.exit.NodeExit.TheVariants as exits
 
@@ -89,6 +90,28 @@ pub record GivesAndServes {S : Type 0} (steps : S → ℕ → List ℕ → Event
   pub gave : Goes old.given mid outs
   pub serves : Serves steps opens turns (record old { given = mid }) new
 
+-- a part of what the start gives went out: at the next output its port failed
+pub record StartCut {S F : Type 0} (fault : TurnFault F) (outs : List Out) (old : Node S) (end' : S) (given' : Given) (waits' : Waits) (asked' : Asked) : Type 0 where
+  pub part : List Out
+  pub cut : IsCut fault outs part
+  pub gave : Goes old.given given' part
+  pub end : end' ≡ old.end
+  pub waits : waits' ≡ old.waits
+  pub asks : asked' ≡ old.asked
+
+-- all of it went out, and then the run ended early
+pub record GivesAndEnds {S F : Type 0} (steps : S → ℕ → List ℕ → Event → List Out → S → Type 0) (stops : S → ℕ → List ℕ → Event → F → S → Type 0) (fault : TurnFault F) (opens : Bool) (outs : List Out) (old : Node S) (end' : S) (given' : Given) (waits' : Waits) (asked' : Asked) : Type 0 where
+  pub mid : Given
+  pub gave : Goes old.given mid outs
+  pub ends : EndsShort steps stops fault opens (record old { given = mid }) end' given' waits' asked'
+
+-- how far a node came whose end was opened, and which exit goes with it
+abbrev pub ServesShort : {S : Type 0} → (S → ℕ → List ℕ → Event → List Out → S → Type 0) → (S → ℕ → List ℕ → Event → NodeStop → S → Type 0) → NodeExit → Bool → List Out → Node S → S → Given → Waits → Asked → Type 0
+ServesShort steps stops exit opens outs old end' given' waits' asked' =
+    (fault : TurnFault NodeStop)
+    × (((exit ≡ of_turn fault) × StartCut fault outs old end' given' waits' asked')
+    ⊎ ((exit ≡ of_serving (fault_of fault)) × GivesAndEnds steps stops fault opens outs old end' given' waits' asked'))
+
 -- all that is around a node's end but its disk
 pub record Outside : Type 0 where
   pub stream : Stream
@@ -112,3 +135,32 @@ pub record Ran {D : Type 0} (holds : D → Option Held) (reach calls_left faults
   pub serves : GivesAndServes (NodeSteps holds reach calls_left faults) p.texts.opens p.numbers.turns outs
       (node (fill_bytes 16 old.stream).1 (option_map passed old.clock) (running opened mid no_counts mid_log) old.given old.waits old.asked)
       (node new.stream new.clock (running end now counts log') new.given new.waits new.asked)
+
+-- The run of a plan that ended before there was anything to go out: the end wasn't opened, or memory was wanting for what its start gives. No
+-- port was touched.
+pub record StayedShut {D : Type 0} (holds : D → Option Held) (reach calls_left faults : D → ℕ) (p : Planned) (exit : NodeExit) (disk now : D) (log log' : Sunk) (old new : Outside) : Type 0 where
+  pub why : NodeUnopened
+  pub exit_is : exit ≡ of_opening why
+  pub shut : StaysShut holds reach calls_left faults p.identity.lac (config_of p) (fill_bytes 16 old.stream).0 disk now log log' why
+  pub given : new.given ≡ old.given
+  pub waits : new.waits ≡ old.waits
+  pub asks : new.asked ≡ old.asked
+
+-- The run of a plan whose end was opened, and that ended early. The log was told of the start and of each step that was made.
+pub record BrokeOff {D : Type 0} (holds : D → Option Held) (reach calls_left faults : D → ℕ) (p : Planned) (exit : NodeExit) (disk now : D) (log log' : Sunk) (old new : Outside) : Type 0 where
+  pub opened : NodeEnd
+  pub mid : D
+  pub mid_log : Sunk
+  pub outs : List Out
+  pub opens : NodeOpens holds reach calls_left faults p.identity.lac (config_of p) (fill_bytes 16 old.stream).0 disk mid log mid_log opened outs
+  pub end : NodeEnd
+  pub counts : Counts
+  pub short : ServesShort (NodeSteps holds reach calls_left faults) (NodeStops holds reach calls_left faults) exit p.texts.opens outs
+      (node (fill_bytes 16 old.stream).1 (option_map passed old.clock) (running opened mid no_counts mid_log) old.given old.waits old.asked)
+      (running end now counts log') new.given new.waits new.asked
+
+-- the run of a plan, to its end or as far as it came
+abbrev pub RanTo : {D : Type 0} → (D → Option Held) → (D → ℕ) → (D → ℕ) → (D → ℕ) → Planned → Result Counts NodeExit → D → D → Sunk → Sunk → Outside → Outside → Type 0
+RanTo holds reach calls_left faults p (Ok counts) disk now log log' old new = Ran holds reach calls_left faults p counts disk now log log' old new
+RanTo holds reach calls_left faults p (Err exit) disk now log log' old new =
+    StayedShut holds reach calls_left faults p exit disk now log log' old new ⊎ BrokeOff holds reach calls_left faults p exit disk now log log' old new

@@ -1,14 +1,14 @@
 //! The run of a plan.
 
-ghost use Rattle.std.specs.Prelude.{◌≡◌, false, IfOk, OnOk};
+ghost use Rattle.std.specs.Prelude.{◌≡◌, false, OnOk, IfErr};
 ghost use Rattle.port_events.specs.Feeding.{given};
 ghost use Rattle.port_turn.specs.Turns.{waits, asked};
 ghost use Rattle.port_turn.specs.Runs.{node};
 ghost use Rattle.node_words.specs.Plans.{planned};
 ghost use Rattle.node_run.specs.Faults.{faults};
 ghost use Rattle.node_run.specs.Logs.{sunk, Grows};
-ghost use Rattle.node_run.specs.Steps.{running, store_of, IsReady, NodeSteps};
-ghost use Rattle.node_top.specs.Runs.{config_of, of_opening, of_turn, of_serving, outside, RunBlames, Ran, GivesAndServes};
+ghost use Rattle.node_run.specs.Steps.{running, store_of, IsReady, NodeSteps, NodeStops};
+ghost use Rattle.node_top.specs.Runs.{config_of, of_opening, of_turn, of_serving, outside, RunBlames, RanTo, GivesAndServes, ServesShort};
 
 use crate::exit::NodeExit;
 use block_source::next_block;
@@ -101,6 +101,7 @@ fn give_and_serve<L: Link, E: Ether, U: Uplink, D: Disk, C: Clock, R: Rng, O: Si
     requires running { (store_of end.old).journal.halted ≡ false }
     requires room { IsReady D.reach D.calls_left end.old disk.old }
     ensures served { OnOk result (GivesAndServes (NodeSteps D.holds D.reach D.calls_left D.faults) opens turns outs.now (node (R.stream rng.old) (C.gives clock.old) (running end.old disk.old counts.old (sunk (O.faults log.old) (O.taken log.old))) (given (L.given link.old) (E.given ether.old) (U.given up.old)) (waits (L.waiting link.old) (E.waiting ether.old) (U.waiting up.old)) (asked (L.asked link.old) (E.asked ether.old) (U.asked up.old))) (node (R.stream rng.new) (C.gives clock.new) (running end.new disk.new counts.new (sunk (O.faults log.new) (O.taken log.new))) (given (L.given link.new) (E.given ether.new) (U.given up.new)) (waits (L.waiting link.new) (E.waiting ether.new) (U.waiting up.new)) (asked (L.asked link.new) (E.asked ether.new) (U.asked up.new)))) }
+    ensures short { IfErr result (λ exit. ServesShort (NodeSteps D.holds D.reach D.calls_left D.faults) (NodeStops D.holds D.reach D.calls_left D.faults) exit opens outs.now (node (R.stream rng.old) (C.gives clock.old) (running end.old disk.old counts.old (sunk (O.faults log.old) (O.taken log.old))) (given (L.given link.old) (E.given ether.old) (U.given up.old)) (waits (L.waiting link.old) (E.waiting ether.old) (U.waiting up.old)) (asked (L.asked link.old) (E.asked ether.old) (U.asked up.old))) (running end.new disk.new counts.new (sunk (O.faults log.new) (O.taken log.new))) (given (L.given link.new) (E.given ether.new) (U.given up.new)) (waits (L.waiting link.new) (E.waiting ether.new) (U.waiting up.new)) (asked (L.asked link.new) (E.asked ether.new) (U.asked up.new))) }
     ensures grows { Grows (sunk (O.faults log.old) (O.taken log.old)) (sunk (O.faults log.new) (O.taken log.new)) }
     ensures cause { RunBlames (faults (D.faults disk.old) (L.faults link.old) (E.faults ether.old) (U.faults up.old)) (faults (D.faults disk.new) (L.faults link.new) (E.faults ether.new) (U.faults up.new)) result }
 {
@@ -129,7 +130,7 @@ pub(crate) fn run<L: Link, E: Ether, U: Uplink, D: Disk, C: Clock, R: Rng, O: Si
     rng: &mut R,
     log: &mut O,
 ) -> Result<Counts, NodeExit>
-    ensures ran { IfOk result (λ counts. Ran D.holds D.reach D.calls_left D.faults (planned plan) counts disk.old disk.new (sunk (O.faults log.old) (O.taken log.old)) (sunk (O.faults log.new) (O.taken log.new)) (outside (R.stream rng.old) (C.gives clock.old) (given (L.given link.old) (E.given ether.old) (U.given up.old)) (waits (L.waiting link.old) (E.waiting ether.old) (U.waiting up.old)) (asked (L.asked link.old) (E.asked ether.old) (U.asked up.old))) (outside (R.stream rng.new) (C.gives clock.new) (given (L.given link.new) (E.given ether.new) (U.given up.new)) (waits (L.waiting link.new) (E.waiting ether.new) (U.waiting up.new)) (asked (L.asked link.new) (E.asked ether.new) (U.asked up.new)))) }
+    ensures ran { RanTo D.holds D.reach D.calls_left D.faults (planned plan) result disk.old disk.new (sunk (O.faults log.old) (O.taken log.old)) (sunk (O.faults log.new) (O.taken log.new)) (outside (R.stream rng.old) (C.gives clock.old) (given (L.given link.old) (E.given ether.old) (U.given up.old)) (waits (L.waiting link.old) (E.waiting ether.old) (U.waiting up.old)) (asked (L.asked link.old) (E.asked ether.old) (U.asked up.old))) (outside (R.stream rng.new) (C.gives clock.new) (given (L.given link.new) (E.given ether.new) (U.given up.new)) (waits (L.waiting link.new) (E.waiting ether.new) (U.waiting up.new)) (asked (L.asked link.new) (E.asked ether.new) (U.asked up.new))) }
     ensures grows { Grows (sunk (O.faults log.old) (O.taken log.old)) (sunk (O.faults log.new) (O.taken log.new)) }
     ensures cause { RunBlames (faults (D.faults disk.old) (L.faults link.old) (E.faults ether.old) (U.faults up.old)) (faults (D.faults disk.new) (L.faults link.new) (E.faults ether.new) (U.faults up.new)) result }
 {

@@ -7,7 +7,7 @@ ghost use Rattle.node_run.specs.Faults.{faults};
 ghost use Rattle.node_run.specs.Logs.{sunk};
 ghost use Rattle.node_words.specs.Helps.{asked_text, node_help_text};
 ghost use Rattle.node_words.specs.Plans.{plan_of};
-ghost use Rattle.node_top.specs.Runs.{outside, Ran};
+ghost use Rattle.node_top.specs.Runs.{outside, RanTo};
 ghost use Rattle.node_top.specs.Ends.{Tells, Finishes, EndsLog, NodeEnds};
 
 use crate::exit::NodeExit;
@@ -74,7 +74,7 @@ fn run_words<L: Link, E: Ether, U: Uplink, D: Disk, C: Clock, R: Rng, K: Sink, O
     sink: &mut K,
     log: &mut O,
 ) -> NodeExit
-    ensures { NodeEnds (λ p counts left. Ran D.holds D.reach D.calls_left D.faults p counts disk.old disk.new (sunk (O.faults log.old) (O.taken log.old)) left (outside (R.stream rng.old) (C.gives clock.old) (given (L.given link.old) (E.given ether.old) (U.given up.old)) (waits (L.waiting link.old) (E.waiting ether.old) (U.waiting up.old)) (asked (L.asked link.old) (E.asked ether.old) (U.asked up.old))) (outside (R.stream rng.new) (C.gives clock.new) (given (L.given link.new) (E.given ether.new) (U.given up.new)) (waits (L.waiting link.new) (E.waiting ether.new) (U.waiting up.new)) (asked (L.asked link.new) (E.asked ether.new) (U.asked up.new)))) None (plan_of (map string_bytes words.now)) result (sunk (K.faults sink.old) (K.taken sink.old)) (sunk (K.faults sink.new) (K.taken sink.new)) (sunk (O.faults log.old) (O.taken log.old)) (sunk (O.faults log.new) (O.taken log.new)) (faults (D.faults disk.old) (L.faults link.old) (E.faults ether.old) (U.faults up.old)) (faults (D.faults disk.new) (L.faults link.new) (E.faults ether.new) (U.faults up.new)) }
+    ensures { NodeEnds (λ p ran left. RanTo D.holds D.reach D.calls_left D.faults p ran disk.old disk.new (sunk (O.faults log.old) (O.taken log.old)) left (outside (R.stream rng.old) (C.gives clock.old) (given (L.given link.old) (E.given ether.old) (U.given up.old)) (waits (L.waiting link.old) (E.waiting ether.old) (U.waiting up.old)) (asked (L.asked link.old) (E.asked ether.old) (U.asked up.old))) (outside (R.stream rng.new) (C.gives clock.new) (given (L.given link.new) (E.given ether.new) (U.given up.new)) (waits (L.waiting link.new) (E.waiting ether.new) (U.waiting up.new)) (asked (L.asked link.new) (E.asked ether.new) (U.asked up.new)))) None (plan_of (map string_bytes words.now)) result (sunk (K.faults sink.old) (K.taken sink.old)) (sunk (K.faults sink.new) (K.taken sink.new)) (sunk (O.faults log.old) (O.taken log.old)) (sunk (O.faults log.new) (O.taken log.new)) (faults (D.faults disk.old) (L.faults link.old) (E.faults ether.old) (U.faults up.old)) (faults (D.faults disk.new) (L.faults link.new) (E.faults ether.new) (U.faults up.new)) }
 {
     match read_plan(alloc, words) {
         Ok(plan) => {
@@ -93,7 +93,8 @@ fn run_words<L: Link, E: Ether, U: Uplink, D: Disk, C: Clock, R: Rng, K: Sink, O
 /// A node reads the clock once and opens its end over the disk, with the generator's first 16 bytes for the key of a LAC's cookies; what the
 /// start gives goes out. It opens a tunnel where `--open` says so, and makes so many turns. At their end it writes how many turns it made, how
 /// many datagrams, frames and network frames it took and how many datagrams it sent, in three lines. Where it ends early it writes a line that
-/// tells why; each fault is told only where the count of that object rose.
+/// tells why; each fault is told only where the count of that object rose. How far it came is said too: whether its end was opened, which
+/// steps were made and are out whole, and of the last one how much went out and at which output a port failed, or that it wasn't made, and why.
 ///
 /// The log has a line for each tunnel and each call that comes up or ends, and, last, why the node ended early. It has no say in what the node
 /// does or answers, also where it fails or memory is wanting for its lines.
@@ -110,7 +111,7 @@ pub fn node_top<L: Link, E: Ether, U: Uplink, D: Disk, C: Clock, R: Rng, K: Sink
     sink: &mut K,
     log: &mut O,
 ) -> NodeExit
-    ensures { NodeEnds (λ p counts left. Ran D.holds D.reach D.calls_left D.faults p counts disk.old disk.new (sunk (O.faults log.old) (O.taken log.old)) left (outside (R.stream rng.old) (C.gives clock.old) (given (L.given link.old) (E.given ether.old) (U.given up.old)) (waits (L.waiting link.old) (E.waiting ether.old) (U.waiting up.old)) (asked (L.asked link.old) (E.asked ether.old) (U.asked up.old))) (outside (R.stream rng.new) (C.gives clock.new) (given (L.given link.new) (E.given ether.new) (U.given up.new)) (waits (L.waiting link.new) (E.waiting ether.new) (U.waiting up.new)) (asked (L.asked link.new) (E.asked ether.new) (U.asked up.new)))) (asked_text node_help_text version.now words.now) (plan_of (map string_bytes words.now)) result (sunk (K.faults sink.old) (K.taken sink.old)) (sunk (K.faults sink.new) (K.taken sink.new)) (sunk (O.faults log.old) (O.taken log.old)) (sunk (O.faults log.new) (O.taken log.new)) (faults (D.faults disk.old) (L.faults link.old) (E.faults ether.old) (U.faults up.old)) (faults (D.faults disk.new) (L.faults link.new) (E.faults ether.new) (U.faults up.new)) }
+    ensures { NodeEnds (λ p ran left. RanTo D.holds D.reach D.calls_left D.faults p ran disk.old disk.new (sunk (O.faults log.old) (O.taken log.old)) left (outside (R.stream rng.old) (C.gives clock.old) (given (L.given link.old) (E.given ether.old) (U.given up.old)) (waits (L.waiting link.old) (E.waiting ether.old) (U.waiting up.old)) (asked (L.asked link.old) (E.asked ether.old) (U.asked up.old))) (outside (R.stream rng.new) (C.gives clock.new) (given (L.given link.new) (E.given ether.new) (U.given up.new)) (waits (L.waiting link.new) (E.waiting ether.new) (U.waiting up.new)) (asked (L.asked link.new) (E.asked ether.new) (U.asked up.new)))) (asked_text node_help_text version.now words.now) (plan_of (map string_bytes words.now)) result (sunk (K.faults sink.old) (K.taken sink.old)) (sunk (K.faults sink.new) (K.taken sink.new)) (sunk (O.faults log.old) (O.taken log.old)) (sunk (O.faults log.new) (O.taken log.new)) (faults (D.faults disk.old) (L.faults link.old) (E.faults ether.old) (U.faults up.old)) (faults (D.faults disk.new) (L.faults link.new) (E.faults ether.new) (U.faults up.new)) }
 {
     if asks_for_help(words) {
         return tell(sink, node_help(), NodeExit::Ok);
