@@ -89,46 +89,40 @@ fn new_node(alloc: Global, lac: bool) -> Option<Box<Node>> {
     Box::new(alloc, node).ok()
 }
 
-/// A turn of a node over its link.
-fn turn<L: Link>(alloc: Global, node: &mut Node, link: &mut L) -> bool {
+/// A node opens a tunnel over its link, or makes a turn; nothing once one of these ended early.
+fn go<L: Link>(alloc: Global, node: &mut Node, link: &mut L, opens: bool) -> bool {
     if !node.runs {
         return false;
     }
-    let made = node_turn(
-        alloc,
-        &mut node.end,
-        link,
-        &mut node.ether,
-        &mut node.up,
-        &mut node.disk,
-        &mut node.clock,
-        &mut node.generator,
-        &mut node.counts,
-        &mut node.log,
-    );
-    node.runs = made.is_ok();
-    node.runs
-}
-
-/// The node opens a tunnel, and makes no turn.
-fn open<L: Link>(alloc: Global, node: &mut Node, link: &mut L) -> bool {
-    if !node.runs {
-        return false;
-    }
-    let made = node_serve(
-        alloc,
-        &mut node.end,
-        link,
-        &mut node.ether,
-        &mut node.up,
-        &mut node.disk,
-        &mut node.clock,
-        &mut node.generator,
-        0,
-        true,
-        &mut node.counts,
-        &mut node.log,
-    );
+    let made = if opens {
+        node_serve(
+            alloc,
+            &mut node.end,
+            link,
+            &mut node.ether,
+            &mut node.up,
+            &mut node.disk,
+            &mut node.clock,
+            &mut node.generator,
+            0,
+            true,
+            &mut node.counts,
+            &mut node.log,
+        )
+    } else {
+        node_turn(
+            alloc,
+            &mut node.end,
+            link,
+            &mut node.ether,
+            &mut node.up,
+            &mut node.disk,
+            &mut node.clock,
+            &mut node.generator,
+            &mut node.counts,
+            &mut node.log,
+        )
+    };
     node.runs = made.is_ok();
     node.runs
 }
@@ -150,12 +144,12 @@ fn alternate<R: Net + Copy>(
     let mut near = UdpLink::new(system, LAC, PORT);
     let mut far = UdpLink::new(system, LNS, PORT);
     // the LNS is there before the LAC opens
-    let mut made = turn(alloc, lns, &mut far) && open(alloc, lac, &mut near);
+    let mut made = go(alloc, lns, &mut far, false) && go(alloc, lac, &mut near, true);
     for _ in 0..most {
         if !made || have_lines(lac, lns) {
             break;
         }
-        made = turn(alloc, lns, &mut far) && turn(alloc, lac, &mut near);
+        made = go(alloc, lns, &mut far, false) && go(alloc, lac, &mut near, false);
     }
     made && have_lines(lac, lns)
 }
