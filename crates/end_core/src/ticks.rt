@@ -109,8 +109,8 @@ fn make_all(tunnels: &mut TunnelTable, plans: Plans)
 }
 
 impl End {
-    /// Time passes: each tunnel takes its turn. Those in which nothing is due aren't looked at, and where nothing is due in any it takes
-    /// no memory. Where memory is wanting, the end is as before.
+    /// Time passes: each tunnel takes its turn. Those in which by their bounds nothing is due aren't looked at, and where that is all of
+    /// them it takes no memory. Where memory is wanting, the end is as before.
     pub fn tick_all<L: Ledger>(
         &mut self,
         ledger: &mut L,

@@ -141,7 +141,7 @@ impl TunnelTable {
     }
 
     /// The local ids of the tunnels for which a tick may do something at a moment, in order: each that is left out isn't due. Where
-    /// none is due it takes no memory.
+    /// by the tunnels' bounds none is, it takes no memory.
     pub fn ids_due(&self, alloc: Global, moment: u64) -> Result<Sequence<u32>, NoMemory>
         ensures order { Ascends (tunnels_of self.now.entries) }
         ensures others { IfOk result (λ ids. LeavesOut (IsEarly (tunnels_of self.now.entries) moment) (ids_of (tunnels_of self.now.entries)) ids) }
