@@ -3,3 +3,4 @@ pub mod Gives
 pub mod Rows
 pub mod Sessions
 pub mod Ticking
+pub mod Saying

@@ -1,16 +1,15 @@
 //! Openings that are declined (RFC 2661 section 7.2.1), by a StopCCN of no tunnel of this end's.
 
 ghost use Rattle.std.specs.Prelude.{◌≡◌, IfOk};
-ghost use Rattle.end_model.specs.End.{against_opening, against_said, against_body, declined};
+ghost use Rattle.end_model.specs.End.{against_opening, against_said, declined};
 ghost use Rattle.end_core.specs.Gives.{GivesStep, CommitsStep};
 
 use crate::end::{End, Given};
 use control_message::{Message, Opening};
 use end_model::{ControlOrigin, Declined, Move, Origin, Out};
-use l2tp_datagram::Body;
 use message_reading::{
     Reason, Said, decline_bytes, fault_reason, is_of_version, lacks_secret, no_id, no_recovery,
-    no_secret, no_tunnel, other_version, read_body,
+    no_secret, no_tunnel, other_version,
 };
 use std::alloc::Global;
 use step_ledger::{Ledger, StepFault};
@@ -42,7 +41,8 @@ impl End {
         }
     }
 
-    fn against_said(&self, said: &Said) -> Option<Reason>
+    /// What stands against what a message says that would open a tunnel, the first that counts.
+    pub(crate) fn against_said(&self, said: &Said) -> Option<Reason>
         ensures { result ≡ against_said self.now said.now.closing said.now.message }
     {
         match &said.message {
@@ -53,15 +53,6 @@ impl End {
                 Some(fault) => Some(fault_reason(fault.cause)),
             },
         }
-    }
-
-    /// What stands against a message that would open a tunnel, the first that counts.
-    #[tactic(auto, unfolding(end_model::specs::End::against_body))]
-    pub(crate) fn against_body(&self, body: &Body<'_>) -> Result<Option<Reason>, NoMemory>
-        ensures { IfOk result (λ r. r ≡ against_body self.now body.now) }
-    {
-        let said = read_body(self.alloc, body)?;
-        Ok(self.against_said(&said))
     }
 
     /// What the step gives that answers an opening by a StopCCN of no tunnel of this end's, to the tunnel id that it told.

@@ -4,10 +4,11 @@ ghost use Rattle.std.specs.Prelude.{◌≡◌, ◌≤◌, [], ◌∷◌, option_
 ghost use Rattle.std.specs.Option.{option_copied};
 ghost use Rattle.id_table.specs.Ids.{at, ids_of};
 ghost use Rattle.l2tp_header.specs.Reading.{header_of};
-ghost use Rattle.end_model.specs.End.{env_of, gives_only, after_turn, after_new, in_new, has_all_tunnels, in_one_more, in_main, known_as, opens_once, addressed, reached_plain, reached, for_addressee, least_in, for_call, look_in, receives, new_end, is_not_closed};
+ghost use Rattle.end_model.specs.End.{env_of, gives_only, after_turn, after_new, in_new, has_all_tunnels, in_one_more, in_main, known_as, opens_once, addressed, reached_plain, reached, for_addressee, opens_or_declines, against_body, least_in, for_call, look_in, receives, new_end, is_not_closed};
 ghost use Rattle.end_model.specs.Reading.{at_tunnel};
 ghost use Rattle.end_model.specs.Secrets.{uncovered_datagram, uncovered_event};
 ghost use Rattle.end_core.specs.Fits.{fits};
+ghost use Rattle.end_core.specs.Saying.{IsSaidBy, IsControlEvent};
 ghost use Rattle.end_core.specs.Sessions.{next_session, subscriber_at};
 ghost use Rattle.tunnel_core.specs.Cores.{tunnel_of};
 ghost use Rattle.end_model.specs.End.{drawing_of};
@@ -18,12 +19,13 @@ ghost use Rattle.end_core.specs.Gives.{GivesStep, CommitsStep, behind_given, giv
 
 use crate::planning::{make_first, make_main, plan_first, plan_main};
 use call_places::look_at;
+use control_message::Message;
 use end_model::{Addressee, CallPlace, Config, Control, Event, Move, Out, Role};
 use id_source::Ids;
 use id_table::Table;
 use l2tp_datagram::{Body, Datagram};
 use l2tp_header::Header;
-use message_reading::{at_zero, next_of_peer, out_of_order, uncover_datagram};
+use message_reading::{at_zero, next_of_peer, out_of_order, read_body, uncover_datagram};
 use session_looks::{CellChanges, Look, header_why};
 use std::alloc::Global;
 use std::marker::Model;
@@ -454,9 +456,11 @@ impl End {
         ledger: &mut L,
         env: &mut Env,
         event: &Event,
+        said: Option<&Result<Message, Why>>,
         peer: u32,
     ) -> Result<(), StepFault<L::Stop>>
         requires ledger { L.can_commit ledger.old }
+        requires said { IsSaidBy (option_copied said) event.now }
         requires begun { env.old ≡ env_of self.old env.old.on.moment env.old.on.block }
         ensures made { OnOk result (in_new self.old env.old event.now peer ≡ record { end = self.new; outputs = env.new.outputs; moves = env.new.moves }) }
         ensures same { OnErr result (self.new ≡ self.old) }
@@ -474,6 +478,7 @@ impl End {
             &mut core,
             env,
             event,
+            said,
         )?;
         let local = planned.local();
         make_first(
@@ -491,22 +496,25 @@ impl End {
         Ok(())
     }
 
-    /// Makes the first step of a tunnel to a peer that is new. Where it draws no id, it isn't kept.
+    /// Makes the first step of a tunnel to a peer that is new, by what the event says, where that is known. Where it draws no id, it
+    /// isn't kept.
     fn run_new<L: Ledger>(
         &mut self,
         ledger: &mut L,
         moment: u64,
         block: [u8; 16],
         event: &Event,
+        said: Option<&Result<Message, Why>>,
         peer: u32,
     ) -> Result<Given, StepFault<L::Stop>>
         requires ledger { L.can_commit ledger.old }
+        requires said { IsSaidBy (option_copied said) event.now }
         ensures given { GivesStep result (in_new self.old (env_of self.old moment block) event.now peer) self.old self.new }
         ensures committed { CommitsStep L.commits_to result (in_new self.old (env_of self.old moment block) event.now peer) self.old ledger.old ledger.new }
         ensures role { self.new.role ≡ self.old.role }
     {
         let mut env = self.env(moment, block);
-        self.take_first_step(ledger, &mut env, event, peer)?;
+        self.take_first_step(ledger, &mut env, event, said, peer)?;
         Ok(Given::of(env))
     }
 
@@ -529,7 +537,7 @@ impl End {
         if self.has_all_tunnels() {
             return self.only(ledger, refusal);
         }
-        self.run_new(ledger, moment, block, event, peer)
+        self.run_new(ledger, moment, block, event, None, peer)
     }
 
     /// The least tunnel to a peer that has assigned this id.
@@ -639,6 +647,32 @@ impl End {
         }
     }
 
+    /// An SCCRQ opens a tunnel, or is declined where something stands against it. What it says is worked out once.
+    #[tactic(auto, unfolding(end_model::specs::End::opens_or_declines, end_model::specs::End::against_body))]
+    fn open_or_decline<L: Ledger>(
+        &mut self,
+        ledger: &mut L,
+        moment: u64,
+        block: [u8; 16],
+        event: &Event,
+        peer: u32,
+        remote: u16,
+        nr: u16,
+        body: &Body<'_>,
+    ) -> Result<Given, StepFault<L::Stop>>
+        requires ledger { L.can_commit ledger.old }
+        requires event { IsControlEvent body.now event.now }
+        ensures given { GivesStep result (opens_or_declines self.old (env_of self.old moment block) event.now peer remote nr (against_body self.old body.now)) self.old self.new }
+        ensures committed { CommitsStep L.commits_to result (opens_or_declines self.old (env_of self.old moment block) event.now peer remote nr (against_body self.old body.now)) self.old ledger.old ledger.new }
+        ensures role { self.new.role ≡ self.old.role }
+    {
+        let said = read_body(self.alloc, body)?;
+        match self.against_said(&said) {
+            None => self.run_new(ledger, moment, block, event, Some(&said.message), peer),
+            Some(reason) => self.decline(ledger, peer, remote, nr, &reason),
+        }
+    }
+
     /// A control message for whom it is for.
     #[tactic(auto, unfolding(end_model::specs::End::for_addressee, end_model::specs::End::opens_or_declines))]
     fn run_addressed<L: Ledger>(
@@ -653,16 +687,16 @@ impl End {
         to: Addressee,
     ) -> Result<Given, StepFault<L::Stop>>
         requires ledger { L.can_commit ledger.old }
+        requires event { IsControlEvent body.now event.now }
         ensures given { GivesStep result (for_addressee self.old (env_of self.old moment block) event.now peer header.now body.now to) self.old self.new }
         ensures committed { CommitsStep L.commits_to result (for_addressee self.old (env_of self.old moment block) event.now peer header.now body.now to) self.old ledger.old ledger.new }
         ensures role { self.new.role ≡ self.old.role }
     {
         let nr = next_of_peer(header);
         match to {
-            Addressee::Opens { remote } => match self.against_body(body)? {
-                None => self.run_new(ledger, moment, block, event, peer),
-                Some(reason) => self.decline(ledger, peer, remote, nr, &reason),
-            },
+            Addressee::Opens { remote } => {
+                self.open_or_decline(ledger, moment, block, event, peer, remote, nr, body)
+            }
             Addressee::Answers { remote } => self.decline(
                 ledger,
                 peer,

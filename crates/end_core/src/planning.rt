@@ -1,6 +1,9 @@
 //! A step of one tunnel of an end: it is planned, what it leaves is committed, and only then it is made.
 
 ghost use Rattle.std.specs.Prelude.{◌≡◌, ◌≢◌, IfOk, OnOk, IsSome};
+ghost use Rattle.std.specs.Option.{option_copied};
+ghost use Rattle.tunnel_fsm.specs.declared.table.TunnelState.TheVariants.{Idle};
+ghost use Rattle.end_core.specs.Saying.{IsSaidBy};
 ghost use Rattle.id_table.specs.Ids.{at};
 ghost use Rattle.id_table.specs.Tables.{HasRoom};
 ghost use Rattle.call_places.specs.Rooms.{HaveRoom};
@@ -14,6 +17,7 @@ ghost use Rattle.step_records.specs.Leaving.{leaves};
 ghost use Rattle.end_core.specs.Gives.{drawn_behind, drawn_first, first_leaves, main_leaves};
 
 use call_places::{change_looks, make_places, place_all};
+use control_message::Message;
 use end_model::{CallPlace, Config, Event, Role};
 use id_table::Table;
 use session_looks::CellChange;
@@ -22,7 +26,7 @@ use step_ledger::{Ledger, StepFault};
 use step_records::{Spaces, commit_step};
 use tunnel_core::{Env, Planned, TunnelCore};
 use tunnel_table::TunnelTable;
-use wire_base::NoMemory;
+use wire_base::{NoMemory, Why};
 
 /// Where a step draws its numbers from that works in this environment.
 pub(crate) fn spaces_of(env: &Env) -> Spaces
@@ -94,7 +98,29 @@ pub(crate) fn plan_main<L: Ledger>(
     Ok(planned)
 }
 
-/// Plans a step of a tunnel, and makes room for the places of the calls that it makes. What the tunnel and the places stand
+/// Plans the first step of a tunnel that is new. Where it is known what the event says, that isn't worked out again.
+fn plan_opening(
+    core: &mut TunnelCore,
+    role: Role,
+    config: &Config,
+    env: &mut Env,
+    event: &Event,
+    said: Option<&Result<Message, Why>>,
+) -> Result<Planned, NoMemory>
+    requires idle { core.old.control.state ≡ Idle }
+    requires said { IsSaidBy (option_copied said) event.now }
+    ensures same { tunnel_of core.new ≡ tunnel_of core.old }
+    ensures planned { IfOk result (λ p. IsTurn p (turn_at role config.now event.now env.old (tunnel_of core.old))) }
+    ensures given { OnOk result (env.new ≡ with_turn (turn_at role config.now event.now env.old (tunnel_of core.old)) env.old) }
+    ensures room { IfOk result (λ p. HasRoomFor core.new p) }
+{
+    match said {
+        None => core.plan(role, config, env, event),
+        Some(said) => core.plan_first(role, config, env, said),
+    }
+}
+
+/// Plans the first step of a tunnel, and makes room for the places of the calls that it makes. What the tunnel and the places stand
 /// for is as before.
 fn plan_step(
     core: &mut TunnelCore,
@@ -103,7 +129,10 @@ fn plan_step(
     config: &Config,
     env: &mut Env,
     event: &Event,
+    said: Option<&Result<Message, Why>>,
 ) -> Result<Planned, NoMemory>
+    requires idle { core.old.control.state ≡ Idle }
+    requires said { IsSaidBy (option_copied said) event.now }
     ensures same { tunnel_of core.new ≡ tunnel_of core.old }
     ensures places { places.new.entries ≡ places.old.entries }
     ensures planned { IfOk result (λ p. IsTurn p (turn_at role config.now event.now env.old (tunnel_of core.old))) }
@@ -111,7 +140,7 @@ fn plan_step(
     ensures room { IfOk result (λ p. HasRoomFor core.new p) }
     ensures calls_room { IfOk result (λ p. HaveRoom places.new p.added) }
 {
-    let planned = core.plan(role, config, env, event)?;
+    let planned = plan_opening(core, role, config, env, event, said)?;
     make_places(places, planned.added())?;
     Ok(planned)
 }
@@ -152,8 +181,11 @@ pub(crate) fn plan_first<L: Ledger>(
     core: &mut TunnelCore,
     env: &mut Env,
     event: &Event,
+    said: Option<&Result<Message, Why>>,
 ) -> Result<Planned, StepFault<L::Stop>>
-    requires { L.can_commit ledger.old }
+    requires ledger { L.can_commit ledger.old }
+    requires idle { core.old.control.state ≡ Idle }
+    requires said { IsSaidBy (option_copied said) event.now }
     ensures tunnels { tunnels.new.entries ≡ tunnels.old.entries }
     ensures places { places.new.entries ≡ places.old.entries }
     ensures same { tunnel_of core.new ≡ tunnel_of core.old }
@@ -165,7 +197,7 @@ pub(crate) fn plan_first<L: Ledger>(
     ensures committed { Commits L.commits_to result (first_leaves env.old (turn_at role config.now event.now env.old (tunnel_of core.old))) ledger.old ledger.new }
 {
     let before = spaces_of(env);
-    let planned = plan_step(core, places, role, config, env, event)?;
+    let planned = plan_step(core, places, role, config, env, event, said)?;
     commit_new(ledger, alloc, tunnels, &before, env, &planned)?;
     Ok(planned)
 }

@@ -1,0 +1,33 @@
+-- The first step of a tunnel that is new, by what its peer's first message says.
+use Rattle.std.proofs.Common.{◌≡◌, ℕ, true, false, List, Result, Ok, sym, ap, ◌∙◌, refl}
+use Rattle.wire_base.specs.declared.why.Why.{Why}
+use Rattle.wire_base.specs.declared.letter.Letter.{Letter}
+use Rattle.l2tp_header.specs.declared.header.Header.{Header}
+use Rattle.l2tp_header.specs.Reading.{header_of}
+use Rattle.control_message.specs.declared.message.Message.{Message}
+use Rattle.tunnel_fsm.specs.declared.table.TunnelState.TheVariants.{Idle}
+use Rattle.end_names.specs.declared.role.Role.{Role}
+use Rattle.end_model.specs.declared.event.Event.{Event}
+use Rattle.end_model.specs.declared.event.Event.TheVariants.{Datagram}
+use Rattle.end_model.specs.declared.tunnel.Call.{Call}
+use Rattle.end_model.specs.declared.tunnel.Config.{Config}
+use Rattle.end_model.specs.Tunnels.{Turn}
+use Rattle.end_model.specs.Sending.{settles}
+use Rattle.end_model.specs.Reading.{body_of, message_in}
+use Rattle.end_model.specs.Hearing.{first_said, hears_control, hears_datagram}
+use Rattle.end_model.specs.Events.{turns}
+use Rattle.end_core.specs.Saying.{SaysThis}
+
+by_header : (role : Role) (c : Config) (letters : List Letter) (calls : List (ℕ × Call)) (peer : ℕ) (bytes : List ℕ) (h : Header) (t : Turn) → header_of bytes ≡ Ok h → h.control ≡ true → t.control.state ≡ Idle
+    → turns role c letters calls (Datagram peer bytes) t ≡ settles false letters (first_said role c (message_in (body_of h bytes)) t)
+unfolding turns hears_datagram hears_control
+by_header role c letters calls peer bytes h t read control idle = rw (read, control, idle) refl
+
+-- it is the turn that the event leads to
+pub first_turn : (role : Role) (c : Config) (letters : List Letter) (calls : List (ℕ × Call)) (said : Result Message Why) (ev : Event) (t : Turn) → SaysThis said ev → t.control.state ≡ Idle
+    → settles false letters (first_said role c said t) ≡ turns role c letters calls ev t
+first_turn role c letters calls said ev t s idle =
+    let e = s.is in
+    ap (λ m. settles false letters (first_said role c m t)) (s.says ∙ ap (λ b. message_in b) e.same)
+    ∙ sym (by_header role c letters calls e.peer e.bytes e.header t e.read e.control idle)
+    ∙ ap (λ x. turns role c letters calls x t) (sym e.event)
