@@ -6,7 +6,7 @@ use Rattle.id_table.specs.Ids.{at}
 use Rattle.wire_base.specs.declared.why.Why.{Why}
 use Rattle.wire_base.specs.declared.cause.Cause.{Cause as CauseOf}
 use Rattle.schedule_text.specs.declared.line.Line.{Line}
-use Rattle.schedule_text.specs.declared.line.Line.TheVariants.{Remark, Lac, Lns, OpenUp, Close, Ring, Frame, FromSub, Down, Hang, DropCall, Deliver, Tick, Crash, Stop, Start}
+use Rattle.schedule_text.specs.declared.line.Line.TheVariants.{Remark, Lac, Lns, OpenUp, Close, Ring, Frame, FromSub, Down, Hang, DropCall, Deliver, Load, Hand, Tick, Crash, Stop, Start}
 use Rattle.schedule_text.specs.Grammar.{FitsLine, AreLines}
 use Rattle.end_model.specs.declared.event.Event.{Event}
 use Rattle.end_model.specs.declared.event.Event.TheVariants as event
@@ -15,12 +15,14 @@ use Rattle.end_model.specs.declared.out.Out.{Out}
 use Rattle.end_model.specs.declared.out.Out.TheVariants.{Cause}
 use Rattle.world_model.specs.Texts.{Entry, Causes}
 use Rattle.step_laws.specs.Letters.{Among}
+use Rattle.wire_base.specs.declared.letter.Side.TheVariants as side
 use Rattle.world_model.specs.declared.packet.Packet.{Packet}
 use Rattle.end_names.specs.Names.{address_of}
 use Rattle.end_model.specs.Secrets.{uncovered_event}
 use Rattle.end_model.specs.End.{Stepped, step}
-use Rattle.step_laws.specs.Lines.{is_lac_at, is_lns_at, is_declared, has_call, has_tunnel, is_put_on, deliver_line}
-use Rattle.world_model.specs.World.{World, Node, Sender, Deed, Lined, after_step, given, entry_of, entries_of, shown, declared, lac_at, lns_at, with_call, with_tunnel, later, block_of, stepped, sender_of, line}
+use Rattle.step_laws.specs.Lines.{is_lac_at, is_lns_at, is_declared, has_call, has_tunnel, is_put_on, deliver_line, IsHeldAt, OfHand, hand_line}
+use Rattle.world_model.specs.declared.held.Held.{Held}
+use Rattle.world_model.specs.World.{World, Node, taken_up, hand_move, Sender, Deed, Lined, after_step, given, entry_of, entries_of, shown, declared, lac_at, lns_at, with_call, with_tunnel, later, block_of, stepped, sender_of, line}
 use Rattle.world_model.specs.Run.{run}
 use Rattle.step_laws.specs.Answers.{RequestsAreAnswered}
 use Rattle.pppoe_discovery.specs.declared.outcome.Discovered.{Discovered}
@@ -29,7 +31,7 @@ use Rattle.step_laws.specs.Hosts.{LacAt, with_host, OfFrame, frame_line}
 use Rattle.cause_laws.specs.Hosts.{FrameBrings}
 use Rattle.cause_laws.proofs.Coming.{FrameComes, OfItsHost, OfAPadr, frame_comes}
 use Rattle.cause_laws.specs.Causes.{Brings, moment_of}
-use Rattle.cause_laws.specs.Answers.{step_at, AnswersOfRuns}
+use Rattle.cause_laws.specs.Answers.{hands_first, step_at, AnswersOfRuns}
 use Rattle.node_laws.specs.Nodes.{EndsOfRuns}
 use Rattle.cause_laws.proofs.Nodes.{CallLaws, all_left, kept_in, goods_in, whole_step}
 
@@ -148,38 +150,42 @@ frame_does w number m bytes n node ev was to brings = record {
         let done = host_does_it w number m bytes l src uniq x uncut h in
         rw (to, event_is, ← here) done
 
--- of each kind
-line_does : (w : World) (number : ℕ) (l : Line) (x : Lined) → line w number l ≡ Ok x → x.cut ≡ false → (n : ℕ) (node : Node) (ev : Event) → at w.nodes n ≡ Some node
+-- of each kind that hands up no frame by itself
+abbrev IsNoHand : Line → Type 0
+IsNoHand (Hand m k) = ⊥
+IsNoHand l = Unit {0}
+
+line_does : (w : World) (number : ℕ) (l : Line) (x : Lined) → IsNoHand l → line w number l ≡ Ok x → x.cut ≡ false → (n : ℕ) (node : Node) (ev : Event) → at w.nodes n ≡ Some node
     → Brings w l n ev → Does w number l x n node ev
 unfolding line
-line_does w number (Remark text) x h uncut n node ev was brings = absurd brings
-line_does w number (Lac m k secret hide) x h uncut n node ev was brings = absurd brings
-line_does w number (Lns m secret) x h uncut n node ev was brings = absurd brings
-line_does w number (OpenUp m) x h uncut n node ev was brings =
+line_does w number (Remark text) x alone h uncut n node ev was brings = absurd brings
+line_does w number (Lac m k secret hide) x alone h uncut n node ev was brings = absurd brings
+line_does w number (Lns m secret) x alone h uncut n node ev was brings = absurd brings
+line_does w number (OpenUp m) x alone h uncut n node ev was brings =
     stepped_does w number (OpenUp m) x m event.OpenTunnel None (lac_at (at w.nodes m)) (λ q e. (is_lac_at (at w.nodes m) q e).0) (λ q. refl) uncut h
     n node ev was brings.0 brings.1
-line_does w number (Close m i) x h uncut n node ev was brings =
+line_does w number (Close m i) x alone h uncut n node ev was brings =
     stepped_does w number (Close m i) x m (event.CloseTunnel i) None (with_tunnel i (declared (at w.nodes m)))
     (λ q e. is_declared (at w.nodes m) q (has_tunnel i (declared (at w.nodes m)) q e)) (λ q. refl) uncut h n node ev was brings.0 brings.1
-line_does w number (Ring m port) x h uncut n node ev was brings =
+line_does w number (Ring m port) x alone h uncut n node ev was brings =
     stepped_does w number (Ring m port) x m (event.Ring port) None (lac_at (at w.nodes m)) (λ q e. (is_lac_at (at w.nodes m) q e).0) (λ q. refl) uncut h
     n node ev was brings.0 brings.1
-line_does w number (Frame m bytes) x h uncut n node ev was brings =
+line_does w number (Frame m bytes) x alone h uncut n node ev was brings =
     frame_line (λ y. y.cut ≡ false → Does w number (Frame m bytes) y n node ev) w number m bytes (frame_does w number m bytes n node ev was brings.0 brings.1)
     x h uncut
-line_does w number (FromSub m session frame) x h uncut n node ev was brings =
+line_does w number (FromSub m session frame) x alone h uncut n node ev was brings =
     stepped_does w number (FromSub m session frame) x m (event.Payload session frame) None (with_call session (lac_at (at w.nodes m)))
     (λ q e. (is_lac_at (at w.nodes m) q (has_call session (lac_at (at w.nodes m)) q e)).0) (λ q. refl) uncut h n node ev was brings.0 brings.1
-line_does w number (Down m session frame) x h uncut n node ev was brings =
+line_does w number (Down m session frame) x alone h uncut n node ev was brings =
     stepped_does w number (Down m session frame) x m (event.Lower session frame) None (with_call session (lns_at (at w.nodes m)))
     (λ q e. (is_lns_at (at w.nodes m) q (has_call session (lns_at (at w.nodes m)) q e)).0) (λ q. refl) uncut h n node ev was brings.0 brings.1
-line_does w number (Hang m session) x h uncut n node ev was brings =
+line_does w number (Hang m session) x alone h uncut n node ev was brings =
     stepped_does w number (Hang m session) x m (event.Hang session) None (with_call session (lac_at (at w.nodes m)))
     (λ q e. (is_lac_at (at w.nodes m) q (has_call session (lac_at (at w.nodes m)) q e)).0) (λ q. refl) uncut h n node ev was brings.0 brings.1
-line_does w number (DropCall m session) x h uncut n node ev was brings =
+line_does w number (DropCall m session) x alone h uncut n node ev was brings =
     stepped_does w number (DropCall m session) x m (event.DropCall session) None (with_call session (declared (at w.nodes m)))
     (λ q e. is_declared (at w.nodes m) q (has_call session (declared (at w.nodes m)) q e)) (λ q. refl) uncut h n node ev was brings.0 brings.1
-line_does w number (Deliver k) x h uncut n node ev was brings =
+line_does w number (Deliver k) x alone h uncut n node ev was brings =
     deliver_line (Does w number (Deliver k) x n node ev) w number x (line w number (Deliver k)) (slice_get w.packets (k - 1))
     (λ p q sent there up young so leads.
     let both : Some p ≡ Some brings.0 = sym sent ∙ brings.1 in
@@ -189,7 +195,9 @@ line_does w number (Deliver k) x h uncut n node ev was brings =
     n node ev was (brings.2 ∙ ap (λ (y : Packet). y.to) same)
     (brings.3 ∙ ap (λ (y : Packet). event.Datagram (address_of y.from) y.bytes) same))
     refl h
-line_does w number (Tick m milliseconds) x h uncut n node ev was brings =
+line_does w number (Load m k) x alone h uncut n node ev was brings = absurd brings
+line_does w number (Hand m k) x alone h uncut n node ev was brings = absurd alone
+line_does w number (Tick m milliseconds) x alone h uncut n node ev was brings =
     whole_step (Does w number (Tick m milliseconds) x n node ev) w number x m event.Tick None (later milliseconds (declared (at w.nodes m)))
     (λ timed e c whole made.
     let k = is_put_on w m milliseconds timed e in
@@ -199,9 +207,37 @@ line_does w number (Tick m milliseconds) x h uncut n node ev was brings =
     of_step w number (Tick m milliseconds) x m k.old (record timed { checkpoint = c }) event.Tick None (ap (λ (q : Node). q.end) (sym k.same)) (ap (λ (q : Node). q.clock) (sym k.same)) made in
     rw (brings.0, brings.1, ← same) done)
     uncut h
-line_does w number (Crash m) x h uncut n node ev was brings = absurd brings
-line_does w number (Stop m commit call keeps) x h uncut n node ev was brings = absurd brings
-line_does w number (Start m) x h uncut n node ev was brings = absurd brings
+line_does w number (Crash m) x alone h uncut n node ev was brings = absurd brings
+line_does w number (Stop m commit call keeps) x alone h uncut n node ev was brings = absurd brings
+line_does w number (Start m) x alone h uncut n node ev was brings = absurd brings
+
+-- and with that frame
+record DoesAll (w : World) (number : ℕ) (l : Line) (x : Lined) (n : ℕ) (node : Node) (ev : Event) : Type 0 where
+  done : map (λ (d : Deed). d.move) x.done ≡ hands_first w l ++ (step_at number l n node ev).moves
+  told : (c : CauseOf) → Among (Cause c) (step_at number l n node ev).outputs → Among (Causes number n c) x.entries
+
+hand_does : (w : World) (number m held : ℕ) (n : ℕ) (node : Node) (ev : Event) → at w.nodes n ≡ Some node → Brings w (Hand m held) n ev
+    → OfHand (λ y. y.cut ≡ false → DoesAll w number (Hand m held) y n node ev) w number m held
+hand_does w number m held n node ev was brings = record {
+  passed = λ k other uncut. (let both : Some k.frame ≡ Some brings.0 = sym k.held ∙ brings.1 in
+      let same : k.frame ≡ brings.0 = cc in absurd (other (ap (λ (f : Held). f.side) same ∙ brings.2)));
+  heard = λ k y lcp steps whole uncut.
+      (let both : Some k.frame ≡ Some brings.0 = sym k.held ∙ brings.1 in
+      let same : k.frame ≡ brings.0 = cc in
+      let event_is : ev ≡ event.Lcp k.frame.session k.frame.frame = brings.4 ∙ ap (λ (f : Held). event.Lcp f.session f.frame) (sym same) in
+      let d = stepped_does (taken_up w m held) number (Hand m held) y m (event.Lcp k.frame.session k.frame.frame) None (Ok k.node)
+      (λ q e. (let here : k.node ≡ q = cc in rw (← here) k.there)) (λ q. refl) whole steps n node ev was brings.3 event_is in
+      record { done = rw k.held (ap (λ ms. hand_move k.frame ∷ ms) d.done); told = λ c a. inr (d.told c a) });
+  cut = λ k y lcp steps off uncut. absurd (true≢false (sym off ∙ uncut));
+}
+
+line_all : (w : World) (number : ℕ) (l : Line) (x : Lined) → line w number l ≡ Ok x → x.cut ≡ false → (n : ℕ) (node : Node) (ev : Event) → at w.nodes n ≡ Some node
+    → Brings w l n ev → DoesAll w number l x n node ev
+unfolding line
+line_all w number (Hand m held) x h uncut n node ev was brings =
+    hand_line (λ y. y.cut ≡ false → DoesAll w number (Hand m held) y n node ev) w number m held (hand_does w number m held n node ev was brings) x h uncut
+line_all w number l x h uncut n node ev was brings =
+    let d = line_does w number l x tt h uncut n node ev was brings in record { done = d.done; told = d.told }
 
 -- ---- runs
 
@@ -211,7 +247,7 @@ answers_of_runs answers laws ends lines fits before after l split x made uncut n
     let first = all_left FitsLine before (l ∷ after) whole in
     let r = run before in
     let fine = (goods_in laws ends before first n node was).fine in
-    let does = line_does r.world (length before + 1) l x made uncut n node ev was brings in
+    let does = line_all r.world (length before + 1) l x made uncut n node ev was brings in
     record {
       done = does.done;
       told = does.told;

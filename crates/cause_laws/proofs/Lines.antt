@@ -7,9 +7,10 @@ use Rattle.id_source.specs.Spaces.{takes_id}
 use Rattle.id_source.specs.declared.IdError.{IdError}
 use Rattle.pppoe_discovery.specs.declared.outcome.Discovered.{Discovered}
 use Rattle.wire_base.specs.declared.why.Why.{Why}
+use Rattle.wire_base.specs.declared.letter.Side.TheVariants as side
 use Rattle.wire_base.specs.declared.why.Why.TheVariants as why
 use Rattle.schedule_text.specs.declared.line.Line.{Line}
-use Rattle.schedule_text.specs.declared.line.Line.TheVariants.{Remark, Lac, Lns, OpenUp, Close, Ring, Frame, FromSub, Down, Hang, DropCall, Deliver, Tick, Crash, Stop, Start}
+use Rattle.schedule_text.specs.declared.line.Line.TheVariants.{Remark, Lac, Lns, OpenUp, Close, Ring, Frame, FromSub, Down, Hang, DropCall, Deliver, Load, Hand, Tick, Crash, Stop, Start}
 use Rattle.end_model.specs.declared.event.Event.{Event}
 use Rattle.end_model.specs.declared.event.Event.TheVariants as event
 use Rattle.end_model.specs.declared.out.Out.{Out}
@@ -21,8 +22,8 @@ use Rattle.end_names.specs.declared.role.Role.TheVariants as role
 use Rattle.end_names.specs.Names.{address_of, mac_of, host_name}
 use Rattle.end_model.specs.Secrets.{uncovered_event}
 use Rattle.end_model.specs.End.{End, Stepped, step}
-use Rattle.step_laws.specs.Lines.{tested_not, is_lac_at, is_lns_at, is_declared, has_call, has_tunnel, is_put_on, committed_line, step_line, deliver_line}
-use Rattle.world_model.specs.World.{World, Node, Checkpoint, Sender, Lined, quiet_line, with_node, after_step, given, entries_of, entry_of, shown, moved_all, with_stop, fallen, cut_line, declared, lac_at, lns_at, down_at, with_call, with_tunnel, later, new_node, answer_entries, added, block_of, stepped, sender_of, crashed, armed, opened, started, line}
+use Rattle.step_laws.specs.Lines.{tested_not, is_lac_at, is_lns_at, is_declared, has_call, has_tunnel, is_put_on, committed_line, step_line, deliver_line, load_line, IsHeldAt, hand_line}
+use Rattle.world_model.specs.World.{World, Node, Checkpoint, Sender, Lined, quiet_line, with_node, after_step, given, entries_of, entry_of, shown, moved_all, with_stop, fallen, without_held, held_line, taken_up, cut_line, declared, lac_at, lns_at, down_at, with_call, with_tunnel, later, new_node, answer_entries, added, block_of, stepped, sender_of, crashed, armed, opened, started, line}
 use Rattle.world_model.specs.declared.stop.StopAt.{StopAt}
 use Rattle.session_book.specs.declared.record.BookTunnel.{BookTunnel}
 use Rattle.session_book.specs.declared.record.BookCall.{BookCall}
@@ -103,15 +104,15 @@ module _ (causes : CausesStand) (room : StepsRefuseTruly) (w : World) (kept : En
   abbrev Told : Type 0
   Told = AllByRecursion (IsTrue w number l) x.entries
 
-  -- a step that the line brings, of a node at the moment of the line
-  of_step : (n : ℕ) (old node : Node) (ev : Event) (sender : Option Sender) → at w.nodes n ≡ Some old → node.end ≡ old.end
+  -- a step that the line brings, of a node at the moment of the line, in a world whose nodes are these
+  of_step_in : (u : World) (n : ℕ) (old node : Node) (ev : Event) (sender : Option Sender) → at w.nodes n ≡ Some old → node.end ≡ old.end
       → node.clock ≡ moment_of l old → Brings w l n ev
-      → after_step w number n node sender (step node.end node.clock (block_of n number) ev) ≡ x → Told
+      → after_step u number n node sender (step node.end node.clock (block_of n number) ev) ≡ x → Told
   unfolding after_step given
-  of_step n old node ev sender was same clock brings is =
+  of_step_in u n old node ev sender was same clock brings is =
       let s = step node.end node.clock (block_of n number) ev in
       let alike : s ≡ step old.end (moment_of l old) (block_of n number) ev = rw (same, clock) refl in
-      let v = moved_all n s.moves (with_node w n (record node { end = s.end })) in
+      let v = moved_all n s.moves (with_node u n (record node { end = s.end })) in
       subst (λ (q : Lined). AllByRecursion (IsTrue w number l) q.entries) is (entries_true w v l number n s.outputs (λ o a.
       by o (subst (λ q. Among o q.outputs) alike a)))
     where
@@ -135,10 +136,29 @@ module _ (causes : CausesStand) (room : StepsRefuseTruly) (w : World) (kept : En
       by (Up session side frame) a = tt
       by (Gone session) a = tt
 
+  of_step : (n : ℕ) (old node : Node) (ev : Event) (sender : Option Sender) → at w.nodes n ≡ Some old → node.end ≡ old.end
+      → node.clock ≡ moment_of l old → Brings w l n ev
+      → after_step w number n node sender (step node.end node.clock (block_of n number) ev) ≡ x → Told
+  of_step = of_step_in w
+
   -- a step that was cut off tells just that
-  cut_told : (n : ℕ) (node : Node) (k : Checkpoint) → cut_line w number n node k ≡ x → Told
+  cut_told_in : (u : World) (n : ℕ) (node : Node) (k : Checkpoint) → cut_line u number n node k ≡ x → Told
   unfolding cut_line
-  cut_told n node k is = subst (λ (q : Lined). AllByRecursion (IsTrue w number l) q.entries) is (refl, tt)
+  cut_told_in u n node k is = subst (λ (q : Lined). AllByRecursion (IsTrue w number l) q.entries) is (refl, tt)
+
+  cut_told : (n : ℕ) (node : Node) (k : Checkpoint) → cut_line w number n node k ≡ x → Told
+  cut_told = cut_told_in w
+
+  -- a step on a frame that the node held
+  heard_true : (u : World) (n : ℕ) (node : Node) (ev : Event) → at w.nodes n ≡ Some node → node.clock ≡ moment_of l node → Brings w l n ev
+      → stepped u number n ev None (Ok node) ≡ Ok x → Told
+  heard_true u n node ev there clock brings h =
+      step_line Told u number x n ev None (Ok node)
+      (λ q e k whole is. (let same : node ≡ q = cc in
+      of_step_in u n q (record q { checkpoint = k }) ev None (subst (λ (z : Node). at w.nodes n ≡ Some z) same there) refl
+      (subst (λ (z : Node). z.clock ≡ moment_of l z) same clock) brings is))
+      (λ q e k cut is. cut_told_in u n (record q { end = (step q.end q.clock (block_of n number) ev).end }) k is)
+      h
 
   -- a step of a node that is there
   stepped_true : (n : ℕ) (ev : Event) (sender : Option Sender) (o : Result Node Why) → ((node : Node) → o ≡ Ok node → at w.nodes n ≡ Some node)
@@ -296,7 +316,7 @@ frame_true causes room rings w kept number n bytes = record {
 
 -- of each kind
 pub line_true : CausesStand → StepsRefuseTruly → RingsCome → (w : World) → EndsAreKept w → (number : ℕ) (l : Line) → TellsTruly w number l
-unfolding line crashed armed
+unfolding line crashed armed held_line
 line_true causes room rings w kept number (Remark text) x h =
     let is : quiet_line w ≡ x = cc in quiet_true causes room w kept number (Remark text) x w is
 line_true causes room rings w kept number (Lac n m secret hide) x h =
@@ -332,6 +352,22 @@ line_true causes room rings w kept number (Deliver k) x h =
     stepped_true causes room w kept number (Deliver k) x p.to (event.Datagram (address_of p.from) p.bytes) (sender_of p.from p.origin) (Ok node)
     (λ q same. (let is : node ≡ q = cc in rw (← is) there)) (λ q. refl) (p, sent, refl, refl) leads)
     refl h
+line_true causes room rings w kept number (Load n p) x h =
+    load_line (λ y. AllByRecursion (IsTrue w number (Load n p)) y.entries) w number n (slice_get w.packets (p - 1))
+    (record { dropped = λ word other. ((refl, λ queue. absurd (other queue)), tt); held = λ f is. (refl, tt) }) x h
+line_true causes room rings w kept number (Hand n p) x h =
+    hand_line (λ y. AllByRecursion (IsTrue w number (Hand n p)) y.entries) w number n p
+    (record {
+      passed = λ k other. (refl, tt);
+      heard = λ k y lcp steps whole. (refl, heard k y lcp steps);
+      cut = λ k y lcp steps off. heard k y lcp steps;
+    }) x h
+  where
+    heard : (k : IsHeldAt w n p) (y : Lined) → k.frame.side ≡ side.Lcp → stepped (taken_up w n p) number n (event.Lcp k.frame.session k.frame.frame) None (Ok k.node) ≡ Ok y
+        → AllByRecursion (IsTrue w number (Hand n p)) y.entries
+    heard k y lcp steps =
+        heard_true causes room w kept number (Hand n p) y (taken_up w n p) n k.node (event.Lcp k.frame.session k.frame.frame) k.there refl
+        (k.frame, k.held, lcp, refl, refl) steps
 line_true causes room rings w kept number (Tick n milliseconds) x h =
     step_line (AllByRecursion (IsTrue w number (Tick n milliseconds)) x.entries) w number x n event.Tick None (later milliseconds (declared (at w.nodes n)))
     (λ node e c whole is.
@@ -346,7 +382,7 @@ line_true causes room rings w kept number (Crash n) x h = by (declared (at w.nod
     by : (o : Result Node Why) → crashed w number n o ≡ Ok x → AllByRecursion (IsTrue w number (Crash n)) x.entries
     by (Err y) h = absurd (cc)
     by (Ok node) h =
-        let v = with_node w n (fallen (block_of n number) node node.checkpoint) in
+        let v = without_held (with_node w n (fallen (block_of n number) node node.checkpoint)) n in
         let is : quiet_line v ≡ x = cc in
         quiet_true causes room w kept number (Crash n) x v is
 line_true causes room rings w kept number (Stop n commit call keeps) x h = by (declared (at w.nodes n)) h

@@ -12,7 +12,7 @@ use Rattle.wire_base.specs.declared.why.Why.TheVariants as why
 use Rattle.session_book.specs.declared.record.Record.{Record}
 use Rattle.session_book.specs.Books.{Kept, fits, stepped as with_record}
 use Rattle.schedule_text.specs.declared.line.Line.{Line}
-use Rattle.schedule_text.specs.declared.line.Line.TheVariants.{Remark, Lac, Lns, OpenUp, Close, Ring, Frame, FromSub, Down, Hang, DropCall, Deliver, Tick, Crash, Stop, Start}
+use Rattle.schedule_text.specs.declared.line.Line.TheVariants.{Remark, Lac, Lns, OpenUp, Close, Ring, Frame, FromSub, Down, Hang, DropCall, Deliver, Load, Hand, Tick, Crash, Stop, Start}
 use Rattle.schedule_text.specs.Grammar.{FitsLine, AreLines}
 use Rattle.end_names.specs.Names.{address_of, node_of}
 use Rattle.end_names.specs.declared.role.Role.{Role}
@@ -32,9 +32,9 @@ use Rattle.end_model.specs.Starting.{bare_end, starts}
 use Rattle.world_model.specs.declared.refusal.Refusal.{Refusal}
 use Rattle.world_model.specs.declared.refusal.Refusal.TheVariants.{Unfit}
 use Rattle.world_model.specs.declared.stop.StopAt.{StopAt}
-use Rattle.world_model.specs.World.{World, Node, Checkpoint, Sender, Lined, Committed, IsFull, IsCut, IsWhole, quiet_line, with_node, with_birth_at, with_birth, birth_of, is_born, moved, moved_all, sent, shown, shown_all, given, after_step, recorded, recorded_all, is_full, with_stop, kept_by, commits_by, commits, fallen, cut_line, committed, declared, lac_at, lns_at, down_at, with_call, with_tunnel, later, new_node, added, block_of, stepped, sender_of, crashed, armed, opened, started, line}
+use Rattle.world_model.specs.World.{World, Node, Checkpoint, Sender, Lined, Committed, IsFull, IsCut, IsWhole, quiet_line, with_node, with_birth_at, with_birth, birth_of, is_born, moved, moved_all, sent, shown, shown_all, given, after_step, recorded, recorded_all, is_full, with_stop, kept_by, commits_by, commits, fallen, without_held, held_line, taken_up, cut_line, committed, declared, lac_at, lns_at, down_at, with_call, with_tunnel, later, new_node, added, block_of, stepped, sender_of, crashed, armed, opened, started, line}
 use Rattle.world_model.specs.Run.{Run, empty_run, after_line, goes_on, run_from, run}
-use Rattle.step_laws.specs.Lines.{tested_not, is_lac_at, is_lns_at, is_declared, is_down_at, has_call, has_tunnel, IsAt, is_at, at_moment, is_later, WasWhole, committed_line, step_line, deliver_line}
+use Rattle.step_laws.specs.Lines.{tested_not, is_lac_at, is_lns_at, is_declared, is_down_at, has_call, has_tunnel, IsAt, is_at, at_moment, is_later, WasWhole, committed_line, step_line, deliver_line, load_line, IsHeldAt, hand_line}
 use Rattle.step_laws.specs.Hosts.{with_host, entering, OfFrame, frame_line}
 use Rattle.step_laws.specs.Left.{AreSound, AreAsked, AreFew, CallsStaySound, CallsAreAsked, LateCallsEnd, FailedTunnelsGo, TunnelsBeginFew, TunnelsStayFew}
 use Rattle.step_laws.specs.Steps.{AreKept}
@@ -297,46 +297,60 @@ module _ (laws : CallLaws) (w : World) (number : ℕ) (kept : EndsAreKept w) (go
     cut = λ l ev node is x h c. one_good n ev node is x h;
   }
 
+module _ (laws : CallLaws) (w : World) (number : ℕ) (kept : EndsAreKept w) (goods : AreGood w) where
   line_good : (x : Lined) (l : Line) → FitsLine l → line w number l ≡ Ok x → AreGood x.world
-  unfolding line crashed armed started starts fallen
+  unfolding line crashed armed started starts fallen held_line
   line_good x (Remark text) f h = let e : quiet_line w ≡ x = cc in subst (λ (l : Lined). AreGood l.world) e goods
-  line_good x (Lac n m secret hide) f h = added_good n role.Lac (address_of m) secret hide x h
-  line_good x (Lns n secret) f h = added_good n role.Lns 0 secret false x h
+  line_good x (Lac n m secret hide) f h = added_good laws w number kept goods n role.Lac (address_of m) secret hide x h
+  line_good x (Lns n secret) f h = added_good laws w number kept goods n role.Lns 0 secret false x h
   line_good x (OpenUp n) f h =
-      stepped_good x n event.OpenTunnel None (lac_at (at w.nodes n)) (λ node e. there_good n node (is_lac_at (at w.nodes n) node e).0) h
+      stepped_good laws w number kept goods x n event.OpenTunnel None (lac_at (at w.nodes n)) (λ node e. there_good laws w number kept goods n node (is_lac_at (at w.nodes n) node e).0) h
   line_good x (Close n i) f h =
-      stepped_good x n (event.CloseTunnel i) None (with_tunnel i (declared (at w.nodes n)))
-      (λ node e. there_good n node (is_declared (at w.nodes n) node (has_tunnel i (declared (at w.nodes n)) node e))) h
+      stepped_good laws w number kept goods x n (event.CloseTunnel i) None (with_tunnel i (declared (at w.nodes n)))
+      (λ node e. there_good laws w number kept goods n node (is_declared (at w.nodes n) node (has_tunnel i (declared (at w.nodes n)) node e))) h
   line_good x (Ring n port) f h =
-      stepped_good x n (event.Ring port) None (lac_at (at w.nodes n)) (λ node e. there_good n node (is_lac_at (at w.nodes n) node e).0) h
-  line_good x (Frame n bytes) f h = frame_line (λ (y : Lined). AreGood y.world) w number n bytes (of_frame n bytes) x h
+      stepped_good laws w number kept goods x n (event.Ring port) None (lac_at (at w.nodes n)) (λ node e. there_good laws w number kept goods n node (is_lac_at (at w.nodes n) node e).0) h
+  line_good x (Frame n bytes) f h = frame_line (λ (y : Lined). AreGood y.world) w number n bytes (of_frame laws w number kept goods n bytes) x h
   line_good x (FromSub n session frame) f h =
-      stepped_good x n (event.Payload session frame) None (with_call session (lac_at (at w.nodes n)))
-      (λ node e. there_good n node (is_lac_at (at w.nodes n) node (has_call session (lac_at (at w.nodes n)) node e)).0) h
+      stepped_good laws w number kept goods x n (event.Payload session frame) None (with_call session (lac_at (at w.nodes n)))
+      (λ node e. there_good laws w number kept goods n node (is_lac_at (at w.nodes n) node (has_call session (lac_at (at w.nodes n)) node e)).0) h
   line_good x (Down n session frame) f h =
-      stepped_good x n (event.Lower session frame) None (with_call session (lns_at (at w.nodes n)))
-      (λ node e. there_good n node (is_lns_at (at w.nodes n) node (has_call session (lns_at (at w.nodes n)) node e)).0) h
+      stepped_good laws w number kept goods x n (event.Lower session frame) None (with_call session (lns_at (at w.nodes n)))
+      (λ node e. there_good laws w number kept goods n node (is_lns_at (at w.nodes n) node (has_call session (lns_at (at w.nodes n)) node e)).0) h
   line_good x (Hang n session) f h =
-      stepped_good x n (event.Hang session) None (with_call session (lac_at (at w.nodes n)))
-      (λ node e. there_good n node (is_lac_at (at w.nodes n) node (has_call session (lac_at (at w.nodes n)) node e)).0) h
+      stepped_good laws w number kept goods x n (event.Hang session) None (with_call session (lac_at (at w.nodes n)))
+      (λ node e. there_good laws w number kept goods n node (is_lac_at (at w.nodes n) node (has_call session (lac_at (at w.nodes n)) node e)).0) h
   line_good x (DropCall n session) f h =
-      stepped_good x n (event.DropCall session) None (with_call session (declared (at w.nodes n)))
-      (λ node e. there_good n node (is_declared (at w.nodes n) node (has_call session (declared (at w.nodes n)) node e))) h
+      stepped_good laws w number kept goods x n (event.DropCall session) None (with_call session (declared (at w.nodes n)))
+      (λ node e. there_good laws w number kept goods n node (is_declared (at w.nodes n) node (has_call session (declared (at w.nodes n)) node e))) h
   line_good x (Deliver p) f h = deliver_line (AreGood x.world) w number x (line w number (Deliver p)) (slice_get w.packets (p - 1))
       (λ q node found there up young so leads.
-      stepped_good x q.to (event.Datagram (address_of q.from) q.bytes) (sender_of q.from q.origin) (Ok node)
-      (λ y e. (let same : node ≡ y = cc in subst MayStep same (there_good q.to node there))) leads)
+      stepped_good laws w number kept goods x q.to (event.Datagram (address_of q.from) q.bytes) (sender_of q.from q.origin) (Ok node)
+      (λ y e. (let same : node ≡ y = cc in subst (λ (z : Node). IsGood z × AreKept z.end) same (there_good laws w number kept goods q.to node there))) leads)
       refl h
+  line_good x (Load n p) f h = load_line (λ (y : Lined). AreGood y.world) w number n (slice_get w.packets (p - 1))
+      (record { dropped = λ word other. goods; held = λ g is. goods }) x h
+  line_good x (Hand n p) f h = hand_line (λ (y : Lined). AreGood y.world) w number n p
+      (record {
+        passed = λ k other. goods;
+        heard = λ k y lcp steps whole. heard k y steps;
+        cut = λ k y lcp steps off. heard k y steps;
+      }) x h
+    where
+      heard : (k : IsHeldAt w n p) (y : Lined) → stepped (taken_up w n p) number n (event.Lcp k.frame.session k.frame.frame) None (Ok k.node) ≡ Ok y → AreGood y.world
+      heard k y steps =
+          stepped_good laws (taken_up w n p) number kept goods y n (event.Lcp k.frame.session k.frame.frame) None (Ok k.node)
+          (λ q e. (let same : k.node ≡ q = cc in subst (λ (z : Node). IsGood z × AreKept z.end) same (there_good laws w number kept goods n k.node k.there))) steps
   line_good x (Tick n milliseconds) f h =
-      stepped_good x n event.Tick None (later milliseconds (declared (at w.nodes n)))
-      (λ node e. at_good n node (at_moment w n node (is_later w n milliseconds node e))) h
+      stepped_good laws w number kept goods x n event.Tick None (later milliseconds (declared (at w.nodes n)))
+      (λ node e. at_good laws w number kept goods n node (at_moment w n node (is_later w n milliseconds node e))) h
   line_good x (Crash n) f h = by (declared (at w.nodes n)) h
     where
       by : (o : Result Node Why) → crashed w number n o ≡ Ok x → AreGood x.world
       by (Err y) h = absurd (cc)
       by (Ok node) h =
           let down = fallen (block_of n number) node node.checkpoint in
-          let e : quiet_line (with_node w n down) ≡ x = cc in
+          let e : quiet_line (without_held (with_node w n down) n) ≡ x = cc in
           subst (λ (l : Lined). AreGood l.world) e (put_good w n down goods
           (record { fine = bare_fine node.end.role node.end.config node.checkpoint.book; real = none_real }))
   line_good x (Stop n commit call keeps) f h = by (declared (at w.nodes n)) (λ node e. is_declared (at w.nodes n) node e) h
@@ -355,7 +369,7 @@ module _ (laws : CallLaws) (w : World) (number : ℕ) (kept : EndsAreKept w) (go
       by : (o : Result Node Why) → ((node : Node) → o ≡ Ok node → (at w.nodes n ≡ Some node) × (node.up ≡ false)) → started w number n o ≡ Ok x → AreGood x.world
       by (Err y) is h = absurd (cc)
       by (Ok node) is h =
-          commit_good n (opened (block_of n number) node) None (starts node.end.role node.end.config node.checkpoint.book)
+          commit_good laws w number kept goods n (opened (block_of n number) node) None (starts node.end.role node.end.config node.checkpoint.book)
           (bare_fine node.end.role node.end.config node.checkpoint.book) (goods n node (is node refl).0).real x h
 
 -- ---- runs

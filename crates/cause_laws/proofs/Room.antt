@@ -5,7 +5,7 @@ use Rattle.id_table.specs.Ids.{at}
 use Rattle.wire_base.specs.declared.why.Why.{Why}
 use Rattle.wire_base.specs.declared.why.Why.TheVariants as why
 use Rattle.schedule_text.specs.declared.line.Line.{Line}
-use Rattle.schedule_text.specs.declared.line.Line.TheVariants.{Remark, Lac, Lns, OpenUp, Close, Ring, Frame, FromSub, Down, Hang, DropCall, Deliver, Tick, Crash, Stop, Start}
+use Rattle.schedule_text.specs.declared.line.Line.TheVariants.{Remark, Lac, Lns, OpenUp, Close, Ring, Frame, FromSub, Down, Hang, DropCall, Deliver, Load, Hand, Tick, Crash, Stop, Start}
 use Rattle.end_model.specs.declared.event.Event.{Event}
 use Rattle.end_model.specs.declared.event.Event.TheVariants as event
 use Rattle.end_model.specs.declared.out.Out.{Out}
@@ -127,6 +127,9 @@ room_told full w kept number (Deliver k) x h uncut n f = by f.brings
     by : (p : Packet) × (slice_get w.packets (k - 1) ≡ Some p) × (n ≡ p.to) × (f.event ≡ event.Datagram (address_of p.from) p.bytes)
         → Among (Drops number n why.Queue) x.entries
     by (p, sent, to, is) = arrived full w kept number x k n f p sent to is uncut h
+room_told full w kept number (Load m k) x h uncut n f = absurd f.brings
+room_told full w kept number (Hand m k) x h uncut n f =
+    let b = f.brings in never full w kept number x (Hand m k) n f (event.Lcp b.0.session b.0.frame) b.4 (λ secret peer bytes e. cc)
 room_told full w kept number (Tick m milliseconds) x h uncut n f = never full w kept number x (Tick m milliseconds) n f event.Tick f.brings.1 (λ secret peer bytes e. cc)
 room_told full w kept number (Crash m) x h uncut n f = absurd f.brings
 room_told full w kept number (Stop m commit call keeps) x h uncut n f = absurd f.brings

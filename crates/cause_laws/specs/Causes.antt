@@ -3,10 +3,11 @@
 use Rattle.std.specs.Prelude.{is_some, ◌≡◌, ℕ, ◌+◌, ◌-◌, ◌^◌, ◌≤◌, min, List, [], ◌∷◌, ◌++◌, length, true, false, slice_get, Some, None, Ok, Option, unwrap_or}
 use Rattle.std.specs.List.{AllByRecursion}
 use Rattle.id_table.specs.Ids.{at}
+use Rattle.wire_base.specs.declared.letter.Side.TheVariants as side
 use Rattle.wire_base.specs.declared.why.Why.TheVariants as why
 use Rattle.wire_base.specs.declared.cause.Cause.{Cause}
 use Rattle.schedule_text.specs.declared.line.Line.{Line}
-use Rattle.schedule_text.specs.declared.line.Line.TheVariants.{Remark, Lac, Lns, OpenUp, Close, Ring, Frame, FromSub, Down, Hang, DropCall, Deliver, Tick, Crash, Stop, Start}
+use Rattle.schedule_text.specs.declared.line.Line.TheVariants.{Remark, Lac, Lns, OpenUp, Close, Ring, Frame, FromSub, Down, Hang, DropCall, Deliver, Load, Hand, Tick, Crash, Stop, Start}
 use Rattle.schedule_text.specs.Grammar.{AreLines}
 use Rattle.end_model.specs.declared.event.Event.{Event}
 use Rattle.end_model.specs.declared.event.Event.TheVariants as event
@@ -18,9 +19,10 @@ use Rattle.end_model.specs.Tunnels.{Tunnel}
 use Rattle.end_model.specs.Moments.{is_closed}
 use Rattle.pppoe_wire.specs.declared.frame.Tag.{Tag}
 use Rattle.end_model.specs.End.{step}
-use Rattle.world_model.specs.World.{World, Node, Lined, block_of, line}
+use Rattle.world_model.specs.declared.held.Held.{Held}
+use Rattle.world_model.specs.World.{World, Node, Lined, held_at, block_of, line}
 use Rattle.pppoe_discovery.specs.declared.outcome.Discovered.TheVariants.{Admit}
-use Rattle.world_model.specs.Texts.{Entry, Sends, HandsUp, Ends, Frames, Drops, Causes, Stopped}
+use Rattle.world_model.specs.Texts.{Entry, Sends, HandsUp, Holds, Ends, Frames, Drops, Causes, Stopped}
 use Rattle.step_laws.specs.Hosts.{LacAt}
 use Rattle.world_model.specs.Run.{run}
 use Rattle.step_laws.specs.Letters.{Among}
@@ -35,7 +37,8 @@ use Rattle.cause_laws.specs.Hosts.{IsPadi, HasValue, IsAsked, HasCookie, IsHeld,
 
 -- ---- what a line brings
 
--- the event that a line is for a node; a crash, the stop of a commit and a start bring it none
+-- the event that a line is for a node; a load brings it none, and so do a crash, the stop of a commit and a start; a frame that is handed up
+-- brings one where it is of LCP
 abbrev pub Brings : World → Line → ℕ → Event → Type 0
 Brings w (Remark text) n ev = ⊥
 Brings w (Lac m lns secret hide) n ev = ⊥
@@ -49,6 +52,8 @@ Brings w (Hang m session) n ev = (n ≡ m) × (ev ≡ event.Hang session)
 Brings w (Close m i) n ev = (n ≡ m) × (ev ≡ event.CloseTunnel i)
 Brings w (DropCall m session) n ev = (n ≡ m) × (ev ≡ event.DropCall session)
 Brings w (Deliver k) n ev = (p : Packet) × (slice_get w.packets (k - 1) ≡ Some p) × (n ≡ p.to) × (ev ≡ event.Datagram (address_of p.from) p.bytes)
+Brings w (Load m k) n ev = ⊥
+Brings w (Hand m k) n ev = (f : Held) × (at (held_at w m) k ≡ Some f) × (f.side ≡ side.Lcp) × (n ≡ m) × (ev ≡ event.Lcp f.session f.frame)
 Brings w (Tick m milliseconds) n ev = (n ≡ m) × (ev ≡ event.Tick)
 Brings w (Crash m) n ev = ⊥
 Brings w (Stop m commit call kept) n ev = ⊥
@@ -121,6 +126,7 @@ IsTrue w line l (Causes number n c) = (number ≡ line) × CauseStandsIn w l n c
 IsTrue w line l (Drops number n x) = (number ≡ line) × (x ≡ why.Queue → IsFullAt w l n)
 IsTrue w line l (Sends number packet from to bytes) = number ≡ line
 IsTrue w line l (HandsUp number n session birth side frame) = number ≡ line
+IsTrue w line l (Holds number n k) = number ≡ line
 IsTrue w line l (Ends number n session padt) = number ≡ line
 IsTrue w line l (Stopped number n) = number ≡ line
 IsTrue w line l (Frames number n bytes) = (number ≡ line) × FrameIsTrue w line l n bytes

@@ -18,7 +18,8 @@ use Rattle.end_model.specs.Reading.{tunnel_fault_in, message_in, CallFault, Tunn
 use Rattle.end_model.specs.Tunnels.{Tunnel}
 use Rattle.end_model.specs.Moments.{is_closed}
 use Rattle.end_model.specs.End.{End, plain_step}
-use Rattle.world_model.specs.World.{World, Node, Sender, Deed, Lined, birth_of, moved_all, new_node, deed_of, line}
+use Rattle.world_model.specs.declared.held.Held.{Held}
+use Rattle.world_model.specs.World.{World, Node, Sender, Deed, Lined, birth_of, moved_all, new_node, deed_of, behind_hand, line}
 use Rattle.world_model.specs.Run.{Run, empty_run, after_line}
 use Rattle.step_laws.specs.Calm.{IsCalm, WorldIsCalm}
 use Rattle.step_laws.specs.Letters.{Letter}
@@ -215,6 +216,11 @@ pub data LineDoes (w : World) (accs : Accounts) (number : ℕ) (x : Lined) : Typ
       → LineDoes w accs number x
   AStep : LineSteps w accs number x → LineDoes w accs number x
 
+-- that alone, or behind a frame that a node held and that is handed up
+pub data LineHands (w : World) (accs : Accounts) (number : ℕ) (x : Lined) : Type 0 where
+  ByItself : LineDoes w accs number x → LineHands w accs number x
+  BehindHand : (y : Lined) (n : ℕ) (r : Role) (f : Held) → x ≡ behind_hand number n r f y → LineDoes w accs number y → LineHands w accs number x
+
 -- before each line of a run in which no node crashes, is to stop, or starts
 pub record HoldsAt (most : ℕ) (r : Run) : Type 0 where
   pub holds : Holds r.world (account_of r.done)
@@ -224,7 +230,7 @@ pub record HoldsAt (most : ℕ) (r : Run) : Type 0 where
 -- a line that fits goes on from there
 pub record LineGoesOn (most number : ℕ) (r : Run) (x : Lined) : Type 0 where
   pub after : HoldsAt (most + 16384) (after_line r x)
-  pub does : LineDoes r.world (account_of r.done) number x
+  pub does : LineHands r.world (account_of r.done) number x
 
 abbrev pub LinesGoOn : Type 0
 LinesGoOn = (most number : ℕ) (r : Run) → HoldsAt most r → most + 24576 < 2 ^ 64 → (l : Line) → FitsLine l → IsCalm l → (x : Lined)

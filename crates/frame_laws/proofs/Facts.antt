@@ -1,6 +1,8 @@
 -- What holds of a world goes on to hold.
-use Rattle.std.proofs.Common.{◌≡◌, inl, inr, ⊎_elim, ℕ, zero, suc, ◌≤◌, List, [], ◌∷◌, ◌++◌, refl, subst, Some, arith, ◌<◌, ◌⊎◌}
-use Rattle.std.specs.Prelude.{drop, slice_get}
+use Rattle.std.proofs.Common.{◌≡◌, inl, inr, ⊎_elim, ℕ, zero, suc, ◌≤◌, List, [], ◌∷◌, ◌++◌, refl, sym, subst, Some, arith, ◌<◌, ◌⊎◌}
+use Rattle.std.specs.Prelude.{drop, slice_get, unwrap_or}
+use Rattle.id_table.specs.Ids.{at}
+use Rattle.id_table.specs.Order.{Ascends}
 use Rattle.std.specs.List.{AllByRecursion}
 use Rattle.wire_base.specs.declared.letter.Letter.{Letter}
 use Rattle.control_message.specs.declared.message.Message.{Message}
@@ -13,11 +15,12 @@ use Rattle.end_names.specs.Names.{node_of}
 use Rattle.end_model.specs.Tunnels.{Tunnel}
 use Rattle.end_model.specs.End.{End}
 use Rattle.step_laws.specs.Letters.{Among}
-use Rattle.world_model.specs.World.{Node}
+use Rattle.world_model.specs.declared.held.Held.{Held}
+use Rattle.world_model.specs.World.{World, Node}
 use Rattle.frame_laws.specs.Past.{Passage}
 use Rattle.frame_laws.specs.Frames.{other_end}
 use Rattle.end_model.specs.Secrets.{uncovered_datagram}
-pub use Rattle.frame_laws.specs.Facts.{Nodes, birth_in_node, Born, role_in_node, Plays, Grows, Mates, NamesItsCall, WasSentInCall, ReadOk, BytesOk, PacketOk, KnowsItsMate, CallOk, CallsOk, LetterOk, LettersOk, TunnelOk, EndOk, NodeOk, Holds, StepLaws, LooksOfRuns, FactsOfRuns}
+pub use Rattle.frame_laws.specs.Facts.{Nodes, birth_in_node, Born, role_in_node, Plays, Grows, Mates, NamesItsCall, WasSentInCall, ReadOk, BytesOk, PacketOk, KnowsItsMate, CallOk, CallsOk, LetterOk, LettersOk, TunnelOk, EndOk, NodeOk, Holds, HeldOk, HeldIsSent, StepLaws, LooksOfRuns, HeldOfRuns, FactsOfRuns}
 
 pub all_map : {X : Type 0} (P Q : X → Type 0) → ((x : X) → P x → Q x) → (xs : List X) → AllByRecursion P xs → AllByRecursion Q xs
 all_map P Q f [] h = tt
@@ -193,3 +196,28 @@ end_later ns ms g n e h =
 
 pub node_later : (ns ms : Nodes) → Grows ns ms → (n : ℕ) (node : Node) → NodeOk ns n node → NodeOk ms n node
 node_later ns ms g n node h = record { number = h.number; kept = h.kept; looks = h.looks; end = end_later ns ms g n node.end h.end; births = h.births }
+
+-- ---- frames that are held
+
+pub held_ok_later : (ns ms : Nodes) → Grows ns ms → (gs hs : List Passage) (n : ℕ) (f : Held) → HeldOk ns gs n f → HeldOk ms (gs ++ hs) n f
+held_ok_later ns ms g gs hs n f h =
+    record {
+      passage = h.passage;
+      there = among_left h.passage gs hs h.there;
+      frame_is = h.frame_is;
+      birth_is = h.birth_is;
+      some = h.some;
+      born = g.births n f.session f.birth h.born;
+      role = g.roles n (other_end h.passage.role) h.role;
+      from_is = h.from_is;
+      to_is = h.to_is;
+    }
+
+-- where no frame more is held
+pub held_later : (w v : World) → v.held ≡ w.held → Grows w.nodes v.nodes → (gs hs : List Passage) → HeldIsSent w gs → HeldIsSent v (gs ++ hs)
+held_later w v same g gs hs h =
+    record {
+      sent = λ n number f there.
+          held_ok_later w.nodes v.nodes g gs hs n f (h.sent n number f (subst (λ (t : List (ℕ × List (ℕ × Held))). at (unwrap_or (at t n) []) number ≡ Some f) same there));
+      order = λ n. subst (λ (t : List (ℕ × List (ℕ × Held))). Ascends (unwrap_or (at t n) [])) (sym same) (h.order n);
+    }

@@ -12,6 +12,7 @@ pub mod Chains
 pub mod Datagrams
 pub mod Deeds
 pub mod Ups
+pub mod Held
 pub mod Worlds
 pub mod Lines
 pub mod Runs

@@ -7,10 +7,11 @@ use Rattle.std.specs.Prelude.{is_some, slice_get}
 use Rattle.std.specs.List.{AllByRecursion}
 use Rattle.id_table.specs.Ids.{at, put, at-none}
 use Rattle.id_table.specs.Order.{at_new, at_other, found_put, same_or_not, ascends-empty}
+use Rattle.wire_base.specs.declared.letter.Side.TheVariants as side
 use Rattle.wire_base.specs.declared.why.Why.{Why}
 use Rattle.wire_base.specs.declared.why.Why.TheVariants as why
 use Rattle.schedule_text.specs.declared.line.Line.{Line}
-use Rattle.schedule_text.specs.declared.line.Line.TheVariants.{Remark, Lac, Lns, OpenUp, Close, Ring, Frame, FromSub, Down, Hang, DropCall, Deliver, Tick, Crash, Stop, Start}
+use Rattle.schedule_text.specs.declared.line.Line.TheVariants.{Remark, Lac, Lns, OpenUp, Close, Ring, Frame, FromSub, Down, Hang, DropCall, Deliver, Load, Hand, Tick, Crash, Stop, Start}
 use Rattle.schedule_text.specs.Grammar.{FitsLine}
 use Rattle.end_model.specs.declared.event.Event.{Event}
 use Rattle.end_model.specs.declared.event.Event.TheVariants as event
@@ -21,14 +22,15 @@ use Rattle.end_names.specs.declared.role.Role.TheVariants as role
 use Rattle.end_names.specs.Names.{address_of}
 use Rattle.end_model.specs.Secrets.{uncovered_event}
 use Rattle.end_model.specs.End.{End, plain_step, step, step_in, gives_only}
-use Rattle.step_laws.specs.Lines.{tested_not, is_lac_at, is_lns_at, is_declared, has_call, has_tunnel, none_there, IsTimed, is_there, IsAt, at_moment, is_later, deliver_line}
-use Rattle.world_model.specs.World.{World, Node, Checkpoint, Sender, Lined, quiet_line, with_node, after_step, given, declared, lac_at, lns_at, with_call, with_tunnel, later, new_node, answer_entries, added, block_of, stepped, sender_of, delivers, line}
+use Rattle.step_laws.specs.Lines.{tested_not, is_lac_at, is_lns_at, is_declared, has_call, has_tunnel, none_there, IsTimed, is_there, IsAt, at_moment, is_later, deliver_line, OfLoad, load_line, IsHeldAt, OfHand, hand_line, hand_steps}
+use Rattle.world_model.specs.declared.held.Held.{Held}
+use Rattle.world_model.specs.World.{World, Node, Checkpoint, Sender, Lined, quiet_line, with_node, after_step, given, declared, lac_at, lns_at, with_call, with_tunnel, later, new_node, answer_entries, added, block_of, stepped, sender_of, delivers, held_line, taken_up, hand_entry, behind_hand, line}
 use Rattle.step_laws.specs.Calm.{IsCalm, NodeIsCalm, WorldIsCalm, at_calm, calm_step}
 use Rattle.frame_laws.specs.Codecs.{Codecs}
 use Rattle.frame_laws.specs.Past.{Passage, sent_in, handed_in}
-use Rattle.frame_laws.specs.Frames.{GivesInStep}
+use Rattle.frame_laws.specs.Frames.{GivesInStep, MakesStep, ByItself, BehindUp}
 use Rattle.frame_laws.specs.Reports.{ups_in, told_of}
-use Rattle.frame_laws.proofs.Facts.{StepLaws, Born, Plays, Nodes, Grows, PacketOk, NodeOk, Holds, packets_later, node_later, birth_in_node, role_in_node, all_map, all_at}
+use Rattle.frame_laws.proofs.Facts.{StepLaws, Born, Plays, Nodes, Grows, PacketOk, NodeOk, Holds, HeldIsSent, held_later, same_nodes, packets_later, node_later, birth_in_node, role_in_node, all_map, all_at}
 use Rattle.frame_laws.proofs.Changes.{birth_there}
 use Rattle.frame_laws.proofs.Births.{not_lns, Counted}
 use Rattle.wire_base.specs.declared.cause.Cause.{Cause}
@@ -36,7 +38,8 @@ use Rattle.end_model.specs.Access.{Access}
 use Rattle.world_model.specs.Texts.{Entry, Drops, Frames}
 use Rattle.step_laws.specs.Hosts.{LacAt, with_host, entering, reply_to, HostDoes, HostSends, HostLeaves, OfFrame, frame_line}
 use Rattle.frame_laws.proofs.Ups.{ups_in-append}
-use Rattle.frame_laws.proofs.Worlds.{Below, LineGives, ByLine, ByHost, ByLink, WhyGiven, ByEvent, ByLinkIn, StepGives, Counts, Goes, IsReal, StepOk, step_ok}
+use Rattle.frame_laws.proofs.Held.{loaded_ok, one_more_held, one_less_held, hand_was_sent}
+use Rattle.frame_laws.proofs.Worlds.{earlier, Below, LineGives, ByLine, ByHost, ByLink, WhyGiven, ByEvent, ByLinkIn, StepGives, Counts, Goes, IsReal, StepOk, step_ok}
 
 -- ---- lines
 
@@ -48,9 +51,10 @@ pub record LineOk (number : ℕ) (w : World) (gs : List Passage) (l : Line) (r :
 
 -- a line without a step
 quiet_goes : (number : ℕ) (w v : World) (gs : List Passage) (l : Line) → Holds v gs → Counts w.nodes w.born v → v.packets ≡ w.packets
+    → Grows w.nodes v.nodes → (HeldIsSent w gs → HeldIsSent v gs)
     → LineOk number w gs l (quiet_line v)
 unfolding sent_in handed_in ups_in told_of
-quiet_goes number w v gs l holds counts same = record {
+quiet_goes number w v gs l holds counts same grows held = record {
   goes = record {
     holds = subst (Holds v) (sym (append-nil gs)) holds;
     lines = tt;
@@ -58,6 +62,8 @@ quiet_goes number w v gs l holds counts same = record {
     counts = counts;
     carried = tt;
     grown = ([], same ∙ sym (append-nil w.packets));
+    grows = grows;
+    held = λ h. subst (HeldIsSent v) (sym (append-nil gs)) (held h);
   };
   given = tt;
   told = refl;
@@ -159,7 +165,8 @@ module _ (number : ℕ) (w : World) (gs : List Passage) (holds : Holds w gs) (l 
             (packets_later w.nodes (put w.nodes n new) g gs [] w.packets holds.packets);
       })
       (record { few = omega arith; counted = λ few had. fresh_counted w.nodes number n r lns secret hide none w.born had })
-      refl
+      refl g
+      (λ h. subst (HeldIsSent (with_node w n new)) (append-nil gs) (held_later w (with_node w n new) refl g gs [] h))
 
 added_ok : (number : ℕ) (w : World) (gs : List Passage) → Holds w gs → (l : Line) (n : ℕ) (r : Role) (lns : ℕ) (secret : Option (List ℕ)) (hide : Bool) → n < 256 → (x : Lined)
     → added w number n r lns secret hide ≡ Ok x → LineOk number w gs l x
@@ -192,7 +199,7 @@ NodeGives number n node ev g =
 
 -- an LNS makes the step of a line on such an event
 abbrev IfLns : World → ℕ → Line → ℕ → Event → Option Sender → Node → Type 0
-IfLns w number l n ev sender node = node.end.role ≡ role.Lns → IsTimed w n node × (line w number l ≡ stepped w number n ev sender (Ok node))
+IfLns w number l n ev sender node = node.end.role ≡ role.Lns → IsTimed w n node × MakesStep w number l n ev sender node
 
 module _ (w : World) (number n : ℕ) (l : Line) (ev : Event) (sender : Option Sender) (node : Node) where
   no_lns : node.end.role ≡ role.Lac → IfLns w number l n ev sender node
@@ -314,7 +321,7 @@ module _ (codecs : Codecs) (laws : StepLaws) (number : ℕ) (w : World) (gs : Li
       let here = is_there w p.to node there in
       let ok = sent p found in
       stepped_ok codecs laws number w gs holds below calm l x p.to ev from (Ok node)
-      (λ q e. (let same : node ≡ q = cc in rw (← same) (at_moment w p.to node here, no_frame w number p.to l ev from node tt (λ lns. (here, so)))))
+      (λ q e. (let same : node ≡ q = cc in rw (← same) (at_moment w p.to node here, no_frame w number p.to l ev from node tt (λ lns. (here, ByItself so)))))
       (λ secret. record { from = p.from; number = ok.from; address = refl; bytes_ok = ok.bytes secret }) leads)
       is h
 
@@ -408,6 +415,83 @@ module _ (codecs : Codecs) (laws : StepLaws) (number : ℕ) (w : World) (gs : Li
     cut = λ l ev node is x h off. absurd (true≢false (sym off ∙ uncut n ev node is x h));
   }
 
+  -- a data packet is loaded
+  load_ok : (n k : ℕ) → OfLoad (LineOk number w gs (Load n k)) w number n (slice_get w.packets (k - 1))
+  unfolding held_line ups_in
+  load_ok n k = record {
+    dropped = λ word other. (let q = quiet_goes number w w gs (Load n k) holds (uncounted w) refl (same_nodes w.nodes) (λ h. h) in
+        record { goes = q.goes; given = q.given; told = q.told });
+    held = λ f is. (let ok = loaded_ok w gs n (slice_get w.packets (k - 1)) f is (all_at (PacketOk w.nodes gs) w.packets (k - 1) is.packet is.found holds.packets) in
+        let v = (held_line w number n f).world in
+        let q = quiet_goes number w v gs (Load n k) (record { nodes = holds.nodes; packets = holds.packets }) (record { few = omega arith; counted = λ few had. had }) refl
+        (same_nodes w.nodes) (λ h. one_more_held w gs h number n f ok) in
+        record { goes = q.goes; given = q.given; told = q.told });
+  }
+
+  -- behind a frame that is handed up
+  behind_ok : (l : Line) (n held : ℕ) (k : IsHeldAt w n held) → HeldIsSent w gs → (y : Lined) → LineOk number w gs l y
+      → LineOk number w gs l (behind_hand number n k.node.end.role k.frame y)
+  unfolding sent_in handed_in ups_in told_of
+  behind_ok l n held k was y ok = record {
+    goes = record {
+      holds = ok.goes.holds;
+      lines = ok.goes.lines;
+      sent = (hand_was_sent w gs number n held k (was.sent n held k.frame k.held) (λ g a. earlier number gs below g a) (sent_in y.done), ok.goes.sent);
+      counts = ok.goes.counts;
+      carried = ok.goes.carried;
+      grown = ok.goes.grown;
+      grows = ok.goes.grows;
+      held = ok.goes.held;
+    };
+    given = ok.given;
+    told = ap (λ es. hand_entry number n k.frame ∷ es) ok.told;
+  }
+
+  -- the end's step on a frame of LCP
+  heard_ok : (n held : ℕ) (k : IsHeldAt w n held) → k.frame.side ≡ side.Lcp → HeldIsSent w gs → (y : Lined)
+      → stepped (taken_up w n held) number n (event.Lcp k.frame.session k.frame.frame) None (Ok k.node) ≡ Ok y → LineOk number w gs (Hand n held) y
+  unfolding line
+  heard_ok n held k lcp was y h =
+      calm_step (LineOk number w gs (Hand n held) y) (taken_up w n held) number y n ev None (Ok k.node) (λ q e. (let same : k.node ≡ q = cc in subst NodeIsCalm same (calm n k.node k.there)))
+      (λ q e c whole made.
+      let same : q ≡ k.node = cc in
+      let secret = q.end.config.secret in
+      let at_q : IsTimed w n q = subst (IsTimed w n) (sym same) (is_there w n k.node k.there) in
+      let o = timed_ok codecs laws number v gs (record { nodes = holds.nodes; packets = holds.packets }) below calm (Hand n held) n (uncovered_event secret ev) None q c
+      (at_moment v n q (record { before = at_q.before; there = at_q.there; same = at_q.same })) tt in
+      let steps : MakesStep w number (Hand n held) n ev None q =
+      subst (λ z. MakesStep w number (Hand n held) n ev None z) (sym same) (BehindUp held k.frame refl k.held refl (hand_steps w number n held k lcp)) in
+      subst (LineOk number w gs (Hand n held)) made (record {
+        goes = record {
+          holds = o.goes.holds;
+          lines = o.goes.lines;
+          sent = o.goes.sent;
+          counts = o.goes.counts;
+          carried = o.goes.carried;
+          grown = o.goes.grown;
+          grows = o.goes.grows;
+          held = λ h. o.goes.held (one_less_held w gs h n held);
+        };
+        given = all_map (NodeGives number n q ev) (LineGives number w (Hand n held)) (no_frame w number n (Hand n held) ev None q tt (λ lns. (at_q, steps)))
+            (sent_in (after_step v number n (record q { checkpoint = c }) None (step q.end q.clock (block_of n number) ev)).done) o.given;
+        told = o.told;
+      })) h
+    where
+      v : World
+      v = taken_up w n held
+
+      ev : Event
+      ev = event.Lcp k.frame.session k.frame.frame
+
+  hand_ok : (n held : ℕ) → HeldIsSent w gs → OfHand (LineOk number w gs (Hand n held)) w number n held
+  hand_ok n held was = record {
+    passed = λ k other. behind_ok (Hand n held) n held k was (quiet_line (taken_up w n held))
+        (quiet_goes number w (taken_up w n held) gs (Hand n held) (record { nodes = holds.nodes; packets = holds.packets }) (record { few = omega arith; counted = λ few had. had }) refl
+        (same_nodes w.nodes) (λ h. one_less_held w gs h n held));
+    heard = λ k y lcp steps whole. behind_ok (Hand n held) n held k was y (heard_ok n held k lcp was y steps);
+    cut = λ k y lcp steps off. heard_ok n held k lcp was y steps;
+  }
+
   -- a line that has a node make a step on an event which gives no frame
   without_frame : (l : Line) (x : Lined) (n : ℕ) (ev : Event) (o : Result Node Why) → ((node : Node) → o ≡ Ok node → IsTimed w n node) → HasNoFrame ev
       → ((secret : Option (List ℕ)) → IsReal w gs n (uncovered_event secret ev)) → line w number l ≡ stepped w number n ev None o
@@ -416,51 +500,54 @@ module _ (codecs : Codecs) (laws : StepLaws) (number : ℕ) (w : World) (gs : Li
       stepped_ok codecs laws number w gs holds below calm l x n ev None o
       (λ node e.
       let here = timed node e in
-      (at_moment w n node here, no_frame w number n l ev None node none (λ lns. (here, is ∙ ap (stepped w number n ev None) e))))
+      (at_moment w n node here, no_frame w number n l ev None node none (λ lns. (here, ByItself (is ∙ ap (stepped w number n ev None) e)))))
       real h
 
-  pub line_ok : (x : Lined) (l : Line) → FitsLine l → IsCalm l → line w number l ≡ Ok x → LineOk number w gs l x
+  pub line_ok : (x : Lined) (l : Line) → FitsLine l → IsCalm l → HeldIsSent w gs → line w number l ≡ Ok x → LineOk number w gs l x
   unfolding line
-  line_ok x (Remark text) fits is_calm h =
-      let e : quiet_line w ≡ x = cc in subst (LineOk number w gs (Remark text)) e (quiet_goes number w w gs (Remark text) holds (uncounted w) refl)
-  line_ok x (Lac n m secret hide) fits is_calm h =
+  line_ok x (Remark text) fits is_calm was h =
+      let e : quiet_line w ≡ x = cc in subst (LineOk number w gs (Remark text)) e (quiet_goes number w w gs (Remark text) holds (uncounted w) refl (same_nodes w.nodes) (λ h. h))
+  line_ok x (Lac n m secret hide) fits is_calm was h =
       added_ok number w gs holds (Lac n m secret hide) n role.Lac (address_of m) secret hide (omega (arith, fits.0.1)) x h
-  line_ok x (Lns n secret) fits is_calm h = added_ok number w gs holds (Lns n secret) n role.Lns 0 secret false (omega (arith, fits.0.1)) x h
-  line_ok x (OpenUp n) fits is_calm h =
+  line_ok x (Lns n secret) fits is_calm was h = added_ok number w gs holds (Lns n secret) n role.Lns 0 secret false (omega (arith, fits.0.1)) x h
+  line_ok x (OpenUp n) fits is_calm was h =
       without_frame (OpenUp n) x n event.OpenTunnel (lac_at (at w.nodes n)) (λ node e. is_there w n node (is_lac_at (at w.nodes n) node e).0) tt
       (λ secret. tt) refl h
-  line_ok x (Close n i) fits is_calm h =
+  line_ok x (Close n i) fits is_calm was h =
       without_frame (Close n i) x n (event.CloseTunnel i) (with_tunnel i (declared (at w.nodes n)))
       (λ node e. is_there w n node (is_declared (at w.nodes n) node (has_tunnel i (declared (at w.nodes n)) node e))) tt (λ secret. tt) refl h
-  line_ok x (Ring n port) fits is_calm h =
+  line_ok x (Ring n port) fits is_calm was h =
       without_frame (Ring n port) x n (event.Ring port) (lac_at (at w.nodes n)) (λ node e. is_there w n node (is_lac_at (at w.nodes n) node e).0) tt
       (λ secret. tt) refl h
-  line_ok x (Frame n bytes) fits is_calm h = frame_line (LineOk number w gs (Frame n bytes)) w number n bytes (of_frame n bytes) x h
-  line_ok x (FromSub n session frame) fits is_calm h =
+  line_ok x (Frame n bytes) fits is_calm was h = frame_line (LineOk number w gs (Frame n bytes)) w number n bytes (of_frame n bytes) x h
+  line_ok x (FromSub n session frame) fits is_calm was h =
       stepped_ok codecs laws number w gs holds below calm (FromSub n session frame) x n (event.Payload session frame) None
       (with_call session (lac_at (at w.nodes n)))
       (λ node e.
       let is = is_lac_at (at w.nodes n) node (has_call session (lac_at (at w.nodes n)) node e) in
       (at_moment w n node (is_there w n node is.0), from_sub w number n session frame node is.1))
       (λ secret. tt) h
-  line_ok x (Down n session frame) fits is_calm h =
+  line_ok x (Down n session frame) fits is_calm was h =
       stepped_ok codecs laws number w gs holds below calm (Down n session frame) x n (event.Lower session frame) None (with_call session (lns_at (at w.nodes n)))
       (λ node e.
       let is = is_lns_at (at w.nodes n) node (has_call session (lns_at (at w.nodes n)) node e) in
       let here = is_there w n node is.0 in
-      (at_moment w n node here, down_to w number n session frame node is.1 (λ lns. (here, ap (stepped w number n (event.Lower session frame) None) e))))
+      (at_moment w n node here, down_to w number n session frame node is.1 (λ lns. (here, ByItself (ap (stepped w number n (event.Lower session frame) None) e)))))
       (λ secret. tt) h
-  line_ok x (Hang n session) fits is_calm h =
+  line_ok x (Hang n session) fits is_calm was h =
       without_frame (Hang n session) x n (event.Hang session) (with_call session (lac_at (at w.nodes n)))
       (λ node e. is_there w n node (is_lac_at (at w.nodes n) node (has_call session (lac_at (at w.nodes n)) node e)).0) tt (λ secret. tt) refl h
-  line_ok x (DropCall n session) fits is_calm h =
+  line_ok x (DropCall n session) fits is_calm was h =
       without_frame (DropCall n session) x n (event.DropCall session) (with_call session (declared (at w.nodes n)))
       (λ node e. is_there w n node (is_declared (at w.nodes n) node (has_call session (declared (at w.nodes n)) node e))) tt (λ secret. tt) refl h
-  line_ok x (Deliver k) fits is_calm h =
+  line_ok x (Deliver k) fits is_calm was h =
       delivers_ok (Deliver k) x (slice_get w.packets (k - 1)) (λ p e. all_at (PacketOk w.nodes gs) w.packets (k - 1) p e holds.packets) refl h
-  line_ok x (Tick n milliseconds) fits is_calm h =
+  line_ok x (Load n k) fits is_calm was h =
+      load_line (LineOk number w gs (Load n k)) w number n (slice_get w.packets (k - 1)) (load_ok n k) x h
+  line_ok x (Hand n k) fits is_calm was h = hand_line (LineOk number w gs (Hand n k)) w number n k (hand_ok n k was) x h
+  line_ok x (Tick n milliseconds) fits is_calm was h =
       without_frame (Tick n milliseconds) x n event.Tick (later milliseconds (declared (at w.nodes n)))
       (λ node e. is_later w n milliseconds node e) tt (λ secret. tt) refl h
-  line_ok x (Crash n) fits is_calm h = absurd is_calm
-  line_ok x (Stop n commit call kept) fits is_calm h = absurd is_calm
-  line_ok x (Start n) fits is_calm h = absurd is_calm
+  line_ok x (Crash n) fits is_calm was h = absurd is_calm
+  line_ok x (Stop n commit call kept) fits is_calm was h = absurd is_calm
+  line_ok x (Start n) fits is_calm was h = absurd is_calm

@@ -3,12 +3,13 @@ use Rattle.std.proofs.Common.{◌≡◌, ℕ, suc, ◌+◌, ◌-◌, ◌*◌, �
 use Rattle.std.proofs.lemmas.Option.{none-some}
 use Rattle.std.specs.Prelude.{slice_get}
 use Rattle.std.specs.List.{AllByRecursion}
-use Rattle.id_table.specs.Ids.{at-none}
+use Rattle.id_table.specs.Ids.{at, at-none}
+use Rattle.id_table.specs.Order.{ascends-empty}
 use Rattle.schedule_text.specs.declared.line.Line.{Line}
 use Rattle.schedule_text.specs.Grammar.{FitsLine, AreLines}
 use Rattle.end_names.specs.declared.role.Role.TheVariants.{Lac}
 use Rattle.world_model.specs.declared.refusal.Refusal.{Refusal}
-use Rattle.world_model.specs.World.{Node, Deed, Lined, empty_world, line}
+use Rattle.world_model.specs.World.{Node, Deed, Lined, empty_world, held_at, line}
 use Rattle.world_model.specs.Run.{Run, empty_run, after_line, goes_on, run_from}
 use Rattle.step_laws.specs.Calm.{IsCalm, AreCalm, WorldIsCalm, calm_line}
 use Rattle.frame_laws.specs.Codecs.{Codecs}
@@ -18,7 +19,7 @@ use Rattle.std.proofs.lemmas.List.{append-nil, length-append}
 use Rattle.frame_laws.specs.Frames.{WasSent, IsCarried, IsGiven, ByItsLine, ByItsHost, ByItsLink, GivesByFrame, GivesByLink, FramesOfRuns, PacketsOfRuns, GivenInRuns}
 use Rattle.frame_laws.specs.Reports.{ups_in, told_of, ReportsOfRuns}
 use Rattle.frame_laws.proofs.Ups.{ups_in-append, told_of-append}
-use Rattle.frame_laws.proofs.Facts.{StepLaws, LooksOfRuns, FactsOfRuns, Born, birth_in_node, Holds, among_left, all_map}
+use Rattle.frame_laws.proofs.Facts.{StepLaws, LooksOfRuns, FactsOfRuns, HeldIsSent, HeldOfRuns, Born, birth_in_node, Holds, among_left, all_map}
 use Rattle.frame_laws.proofs.Births.{Counted}
 use Rattle.frame_laws.proofs.Changes.{born_at, plays_at}
 use Rattle.frame_laws.proofs.Deeds.{all_append}
@@ -50,6 +51,7 @@ was_sent_later gs hs h s = record { passage = s.passage; there = among_left s.pa
 -- what holds of a run before the line with a number
 record RunOk (number : ℕ) (r : Run) : Type 0 where
   pub holds : Holds r.world (sent_in r.done)
+  pub held : HeldIsSent r.world (sent_in r.done)
   pub calm : WorldIsCalm r.world
   pub lines : Below number (sent_in r.done)
   pub sent : AllByRecursion (WasSent (sent_in r.done)) (handed_in r.done)
@@ -63,6 +65,7 @@ run_goes_on number r x ok calm g =
     let is : sent_in (r.done ++ x.done) ≡ gs ++ hs = sent_in-append r.done x.done in
     record {
       holds = rw is g.holds;
+      held = rw is (g.held ok.held);
       calm = calm;
       lines = rw is
           (all_append _ gs hs (all_map (λ (p : Passage). p.line < number) (λ (p : Passage). p.line < number + 1) (λ p lt. omega arith) gs ok.lines) g.lines);
@@ -74,11 +77,18 @@ run_goes_on number r x ok calm g =
           (all_map (IsCarried r.world.packets) (IsCarried x.world.packets) (carried_later r.world.packets x.world.packets g.grown) gs ok.carried) g.carried);
     }
 
+none_held : (n number : ℕ) → at (held_at empty_world n) number ≡ None
+none_held n number = rw (at-none n) (at-none number)
+
 begins : RunOk 1 empty_run
 unfolding sent_in handed_in
 begins =
     record {
       holds = record { nodes = λ n node h. absurd (none-some node (sym (at-none n) ∙ h)); packets = tt };
+      held = record {
+        sent = λ n number f h. absurd (none-some f (sym (none_held n number) ∙ h));
+        order = λ n. rw (at-none n) (ascends-empty [] refl);
+      };
       calm = λ n node h. absurd (none-some node (sym (at-none n) ∙ h));
       lines = tt;
       sent = tt;
@@ -93,7 +103,7 @@ no_nodes : (i s x : ℕ) → Born empty_world.nodes i s x → None ≡ Some x
 no_nodes i s x h = sym (ap (λ (o : Option Node). birth_in_node o s) (at-none i)) ∙ h
 
 stopped : (number : ℕ) (r : Run) (fault : Option (ℕ × Refusal)) → RunOk number r → RunOk number (record r { fault = fault })
-stopped number r fault ok = record { holds = ok.holds; calm = ok.calm; lines = ok.lines; sent = ok.sent; carried = ok.carried }
+stopped number r fault ok = record { holds = ok.holds; held = ok.held; calm = ok.calm; lines = ok.lines; sent = ok.sent; carried = ok.carried }
 
 -- the lines of a text from a place on
 abbrev StandsAt : List Line → ℕ → List Line → Type 0
@@ -102,7 +112,7 @@ StandsAt all number ls = (k : ℕ) → slice_get all (number - 1 + k) ≡ slice_
 module _ (codecs : Codecs) (laws : StepLaws) where
   line_of_run : (number : ℕ) (r : Run) → RunOk number r → (l : Line) (x : Lined) → FitsLine l → IsCalm l → line r.world number l ≡ Ok x
       → LineOk number r.world (sent_in r.done) l x
-  line_of_run number r ok l x fits calm h = line_ok codecs laws number r.world (sent_in r.done) ok.holds ok.lines ok.calm x l fits calm h
+  line_of_run number r ok l x fits calm h = line_ok codecs laws number r.world (sent_in r.done) ok.holds ok.lines ok.calm x l fits calm ok.held h
 
   -- the run behind a line
   behind_line : (number : ℕ) (r : Run) → RunOk number r → (l : Line) (x : Lined) → FitsLine l → IsCalm l → line r.world number l ≡ Ok x
@@ -209,6 +219,9 @@ module _ (codecs : Codecs) (laws : StepLaws) where
 
   pub looks_of_runs : LooksOfRuns
   looks_of_runs lines fits calm n node f = ((ended_from 1 lines empty_run fits calm begins).1.holds.nodes n node f).looks
+
+  pub held_of_runs : HeldOfRuns
+  held_of_runs lines fits calm = (ended_from 1 lines empty_run fits calm begins).1.held
 
   pub facts_of_runs : FactsOfRuns
   facts_of_runs lines fits calm = (ended_from 1 lines empty_run fits calm begins).1.holds

@@ -8,7 +8,7 @@ use Rattle.end_model.specs.declared.out.Out.{Out}
 use Rattle.end_model.specs.declared.out.Out.TheVariants.{Send, Up, Gone, Drop, Cause}
 use Rattle.end_names.specs.declared.role.Role.{Role}
 use Rattle.end_names.specs.Names.{node_of}
-use Rattle.world_model.specs.Texts.{Entry, Sends, HandsUp, Ends, Frames, Drops, Causes, Stopped}
+use Rattle.world_model.specs.Texts.{Entry, Sends, HandsUp, Holds, Ends, Frames, Drops, Causes, Stopped}
 use Rattle.end_model.specs.End.{Stepped}
 use Rattle.world_model.specs.World.{World, Sender, Deed, birth_in, birth_of, sent, shown, entry_of, entries_of}
 use Rattle.step_laws.specs.Ups.{ups_of_output, ups_of_move}
@@ -21,6 +21,7 @@ unfolding ups_in
 ups_in-append [] fs = refl
 ups_in-append (HandsUp line node session birth side frame ∷ es) fs = ap (λ ps. HandsUp line node session birth side frame ∷ ps) (ups_in-append es fs)
 ups_in-append (Sends line packet from to bytes ∷ es) fs = ups_in-append es fs
+ups_in-append (Holds line node number ∷ es) fs = ups_in-append es fs
 ups_in-append (Ends line node session padt ∷ es) fs = ups_in-append es fs
 ups_in-append (Drops line node why ∷ es) fs = ups_in-append es fs
 ups_in-append (Frames line node bytes ∷ es) fs = ups_in-append es fs

@@ -36,7 +36,7 @@ use Rattle.step_laws.specs.Codes.{decline_codes_fit}
 use Rattle.frame_laws.specs.Codecs.{Codecs}
 use Rattle.frame_laws.specs.Past.{Passage, sent_in, handed_in}
 use Rattle.frame_laws.specs.Frames.{WasSent, IsCarried, other_end, gives_frame, GivesByFrame, GivesInStep, GivesByLink}
-use Rattle.frame_laws.proofs.Facts.{StepLaws, Nodes, Plays, Grows, Mates, WasSentInCall, ReadOk, BytesOk, PacketOk, LetterOk, EndOk, NodeOk, Holds, among_left, among_right, packets_later, node_later, end_later, all_map, all_push, all_at, grows_on}
+use Rattle.frame_laws.proofs.Facts.{StepLaws, Nodes, Plays, Grows, Mates, WasSentInCall, ReadOk, BytesOk, PacketOk, LetterOk, EndOk, NodeOk, Holds, HeldIsSent, held_later, among_left, among_right, packets_later, node_later, end_later, all_map, all_push, all_at, grows_on}
 use Rattle.frame_laws.proofs.Changes.{birth_is, role_there, Changed, grows, NoBirth}
 use Rattle.frame_laws.proofs.Births.{is_lns, Counted, counted_after}
 use Rattle.frame_laws.proofs.Leads.{Heard, heard_later, At, node_again}
@@ -44,6 +44,7 @@ use Rattle.frame_laws.proofs.Chains.{moved_more, Ran, ran, SentThen, sent_then, 
 use Rattle.frame_laws.proofs.Declining.{declined_fits}
 use Rattle.frame_laws.proofs.Datagrams.{letter_ok, alone_ok, frame_ok}
 use Rattle.frame_laws.specs.Reports.{ups_in, told_of}
+use Rattle.frame_laws.proofs.Held.{moved_held, shown_held}
 use Rattle.frame_laws.proofs.Ups.{ups_told}
 use Rattle.frame_laws.proofs.Deeds.{all_among, done_among, deeds, sends, hands, each_sent, each_handed, sent_among}
 
@@ -202,9 +203,11 @@ pub record Goes (number : ℕ) (w : World) (gs : List Passage) (after : World) (
   pub counts : Counts w.nodes w.born after
   pub carried : AllByRecursion (IsCarried after.packets) (sent_in more)
   pub grown : HasMore w.packets after.packets
+  pub grows : Grows w.nodes after.nodes
+  pub held : HeldIsSent w gs → HeldIsSent after (gs ++ sent_in more)
 
 -- no passage has a line that is later
-earlier : (number : ℕ) (gs : List Passage) → Below number gs → (g : Passage) → Among g gs → g.line < number
+pub earlier : (number : ℕ) (gs : List Passage) → Below number gs → (g : Passage) → Among g gs → g.line < number
 earlier number [] h g a = absurd a
 earlier number (q ∷ gs) h g a = ⊎_elim (λ e. rw (← e) h.0) (λ b. earlier number gs h.1 g b) a
 
@@ -548,6 +551,9 @@ module _ (codecs : Codecs) (laws : StepLaws) (number : ℕ) (w : World) (gs : Li
   grown_packets : HasMore w.packets (shown_all n s.outputs v).packets
   grown_packets = let m = shown_more n s.outputs v in (m.0, m.1 ∙ ap (λ ps. ps ++ m.0) r.grows.packets)
 
+  grown_shown : Grows w.nodes (shown_all n s.outputs v).nodes
+  grown_shown = subst (λ (ns : Nodes). Grows w.nodes ns) (sym (shown_nodes n s.outputs v)) grown
+
   goes : Goes number w gs (shown_all n s.outputs v) deeds_done
   goes = record {
     holds = holds_ok;
@@ -556,6 +562,8 @@ module _ (codecs : Codecs) (laws : StepLaws) (number : ℕ) (w : World) (gs : Li
     counts = counts_shown;
     carried = each_sent v number n old.end.role sender (IsCarried (shown_all n s.outputs v).packets) s.moves carried_ok;
     grown = grown_packets;
+    grows = grown_shown;
+    held = held_later w (shown_all n s.outputs v) (shown_held n s.outputs v ∙ moved_held n s.moves base) grown_shown gs more;
   }
 
   pub step_ok : StepOk number w gs n old.end moment block ev (after_step w number n timed sender s)

@@ -28,7 +28,8 @@ use Rattle.step_laws.specs.Steps.{AreKept, StepsAreChains}
 use Rattle.step_laws.specs.Ups.{UpsAreMoves}
 use Rattle.schedule_text.specs.declared.line.Line.{Line}
 use Rattle.schedule_text.specs.Grammar.{AreLines}
-use Rattle.world_model.specs.World.{World, Node}
+use Rattle.world_model.specs.declared.held.Held.{Held}
+use Rattle.world_model.specs.World.{World, Node, held_at}
 use Rattle.world_model.specs.Run.{run}
 use Rattle.frame_laws.specs.Past.{Passage, past_of}
 use Rattle.frame_laws.specs.Plain.{HidesOk}
@@ -193,6 +194,23 @@ pub record Holds (w : World) (gs : List Passage) : Type 0 where
   pub nodes : (n : ℕ) (node : Node) → at w.nodes n ≡ Some node → NodeOk w.nodes n node
   pub packets : AllByRecursion (PacketOk w.nodes gs) w.packets
 
+-- a frame that is held at a node was sent in the call for which it is held, by its other end
+pub record HeldOk (ns : Nodes) (gs : List Passage) (n : ℕ) (f : Held) : Type 0 where
+  pub passage : Passage
+  pub there : Among passage gs
+  pub frame_is : f.frame ≡ passage.frame
+  pub birth_is : f.birth ≡ passage.birth
+  pub some : 0 < passage.birth
+  -- the session for which it is held has that birth, whatever became of the call
+  pub born : Born ns n f.session f.birth
+  pub role : Plays ns n (other_end passage.role)
+  pub from_is : passage.node ≡ node_of f.peer
+  pub to_is : passage.peer ≡ n
+
+pub record HeldIsSent (w : World) (gs : List Passage) : Type 0 where
+  pub sent : (n number : ℕ) (f : Held) → at (held_at w n) number ≡ Some f → HeldOk w.nodes gs n f
+  pub order : (n : ℕ) → Ascends (held_at w n)
+
 -- what is used of steps
 pub record StepLaws : Type 0 where
   pub chains : StepsAreChains
@@ -202,6 +220,10 @@ pub record StepLaws : Type 0 where
 -- after the run of each list of lines of the grammar, where no node crashes, is to stop, or starts, what the data plane of each node sees is so
 abbrev pub LooksOfRuns : Type 0
 LooksOfRuns = (lines : List Line) → AreLines lines → AreCalm lines → (n : ℕ) (node : Node) → at (run lines).world.nodes n ≡ Some node → LooksAreTrue node.end
+
+-- and so is each frame that is held
+abbrev pub HeldOfRuns : Type 0
+HeldOfRuns = (lines : List Line) → AreLines lines → AreCalm lines → HeldIsSent (run lines).world (past_of lines).sent
 
 -- all of it
 abbrev pub FactsOfRuns : Type 0

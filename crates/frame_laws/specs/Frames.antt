@@ -3,15 +3,17 @@ use Rattle.std.specs.Prelude.{◌≡◌, ◌+◌, ◌-◌, ◌<◌, List, ◌∷
 use Rattle.id_table.specs.Ids.{at}
 use Rattle.pppoe_discovery.specs.declared.outcome.Discovered.TheVariants.{Carried}
 use Rattle.end_model.specs.Access.{Access}
-use Rattle.world_model.specs.World.{World, Node, Sender, block_of, stepped, line}
+use Rattle.world_model.specs.declared.held.Held.{Held}
+use Rattle.world_model.specs.World.{World, Node, Sender, block_of, stepped, held_at, taken_up, behind_up, line}
 use Rattle.step_laws.specs.Hosts.{discovered_at, IsOfHost}
 use Rattle.std.specs.List.{AllByRecursion}
 use Rattle.l2tp_header.specs.Spelling.{data_bytes}
 use Rattle.l2tp_header.specs.Grammar.{FitsWord}
 use Rattle.schedule_text.specs.declared.line.Line.{Line}
-use Rattle.schedule_text.specs.declared.line.Line.TheVariants.{FromSub, Down, Frame}
+use Rattle.schedule_text.specs.declared.line.Line.TheVariants.{FromSub, Down, Frame, Hand}
 use Rattle.schedule_text.specs.Grammar.{AreLines}
 use Rattle.end_model.specs.declared.event.Event.{Event}
+use Rattle.end_model.specs.declared.event.Event.TheVariants.{Lcp}
 use Rattle.end_model.specs.declared.moves.Move.{Move}
 use Rattle.end_model.specs.declared.moves.Move.TheVariants.{FrameSent}
 use Rattle.end_model.specs.declared.tunnel.Call.{Call}
@@ -115,6 +117,13 @@ pub record GivesInStep (e : End) (moment : ℕ) (block : List ℕ) (ev : Event) 
     frame = g.frame;
   }) ∷ rest
 
+-- a line has a node make a step: it is that step, or it hands up a frame of LCP that the node holds, and the step comes behind
+pub data MakesStep (w : World) (number : ℕ) (l : Line) (n : ℕ) (ev : Event) (sender : Option Sender) (node : Node) : Type 0 where
+  ByItself : line w number l ≡ stepped w number n ev sender (Ok node) → MakesStep w number l n ev sender node
+  BehindUp : (held : ℕ) (f : Held) → l ≡ Hand n held → at (held_at w n) held ≡ Some f → ev ≡ Lcp f.session f.frame
+      → line w number l ≡ behind_up number n node.end.role f (stepped (taken_up w n held) number n ev sender (Ok node))
+      → MakesStep w number l n ev sender node
+
 -- so it is in the step that the passage's node makes of a line
 pub record GivesByLink (w : World) (l : Line) (g : Passage) : Type 0 where
   -- the node in the world, and as the line has it: its clock may have gone on
@@ -125,7 +134,7 @@ pub record GivesByLink (w : World) (l : Line) (g : Passage) : Type 0 where
   -- what the line brings it, and the tunnel that sent that
   pub event : Event
   pub sender : Option Sender
-  pub steps : line w g.line l ≡ stepped w g.line g.node event sender (Ok node)
+  pub steps : MakesStep w g.line l g.node event sender node
   pub in_step : GivesInStep node.end node.clock (block_of g.node g.line) (uncovered_event node.end.config.secret event) g
 
 -- a frame that counts as sent is one that its line gave to its end in its call; or at a LAC one that the host of that call sent in an

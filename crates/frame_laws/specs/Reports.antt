@@ -5,7 +5,7 @@ use Rattle.schedule_text.specs.Grammar.{AreLines}
 use Rattle.step_laws.specs.Calm.{AreCalm}
 use Rattle.end_model.specs.declared.moves.Move.{Move}
 use Rattle.end_model.specs.declared.moves.Move.TheVariants as move
-use Rattle.world_model.specs.Texts.{Entry, Sends, HandsUp, Ends, Frames, Drops, Causes, Stopped}
+use Rattle.world_model.specs.Texts.{Entry, Sends, HandsUp, Holds, Ends, Frames, Drops, Causes, Stopped}
 use Rattle.world_model.specs.World.{Deed}
 use Rattle.world_model.specs.Run.{run}
 
@@ -14,6 +14,7 @@ unfoldable pub ups_in : List Entry → List Entry
 ups_in [] = []
 ups_in (HandsUp line node session birth side frame ∷ es) = HandsUp line node session birth side frame ∷ ups_in es
 ups_in (Sends line packet from to bytes ∷ es) = ups_in es
+ups_in (Holds line node number ∷ es) = ups_in es
 ups_in (Ends line node session padt ∷ es) = ups_in es
 ups_in (Frames line node bytes ∷ es) = ups_in es
 ups_in (Drops line node why ∷ es) = ups_in es

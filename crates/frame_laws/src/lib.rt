@@ -3,7 +3,7 @@
 
 ghost use Rattle.frame_laws.specs.Births.{BirthsOfRuns};
 ghost use Rattle.frame_laws.specs.Codecs.{Codecs};
-ghost use Rattle.frame_laws.specs.Facts.{FactsOfRuns, LooksOfRuns, StepLaws};
+ghost use Rattle.frame_laws.specs.Facts.{FactsOfRuns, HeldOfRuns, LooksOfRuns, StepLaws};
 ghost use Rattle.frame_laws.specs.Frames.{FramesOfRuns, GivenInRuns, PacketsOfRuns};
 ghost use Rattle.frame_laws.specs.Reports.{ReportsOfRuns};
 
@@ -54,6 +54,15 @@ pub fn sent_frames_are_packets()
 /// tell of frames which are handed up are, in order, those of the moves that hand one up.
 pub fn reports_tell_the_past()
     ensures { ReportsOfRuns }
+{
+    written_is_read_again();
+    laws_of_steps();
+}
+
+/// After every list of lines of the grammar in which no node crashes, is to stop, or starts, each frame that a node holds was
+/// sent in the call for which it is held, by that call's other end.
+pub fn held_frames_were_sent()
+    ensures { HeldOfRuns }
 {
     written_is_read_again();
     laws_of_steps();

@@ -32,11 +32,13 @@ help_text =
     codes "  hang N S              the subscriber of call S of node N, a LAC, leaves\n" ++
     codes "  drop N S              an operator closes call S of node N\n" ++
     codes "  deliver P             packet P of the report reaches the node that it was sent to\n" ++
+    codes "  load N P              a look at the session of data packet P, which is for node N: its frame is held, or the packet is dropped\n" ++
+    codes "  hand N H              held frame H of node N is handed up, whatever has happened since\n" ++
     codes "  tick N MS             the clock of node N goes on by MS milliseconds, and what is due is done\n" ++
     codes "  crash N               node N crashes: all but what it committed is lost\n" ++
     codes "  stop N C J KEEP       node N is to stop inside its C-th commit from now on, at call J of its disk\n" ++
     codes "  start N               node N, which is down, starts again over what it committed\n" ++
-    codes "N and M are 1 to 255, K, S and T 1 to 65535, P is 1 to 4294967295, MS 0 to 86400000, without leading zeros. HEX is a frame\n" ++
+    codes "N and M are 1 to 255, K, S and T 1 to 65535, P and H 1 to 4294967295, MS 0 to 86400000, without leading zeros. HEX is a frame\n" ++
     codes "from its protocol field on, 2 to 1494 bytes as hex digits in lower case, and in a frame line an Ethernet frame from its\n" ++
     codes "destination address on, 1 to 2048 bytes. C is 1 to 255 and J 1 to 4; KEEP is kept, with a J of 3 or 4, where the record that is\n" ++
     codes "committed there stays, or lost. SECRET is the secret that both ends of a tunnel share, 1 to 64 bytes as hex\n" ++
@@ -53,7 +55,8 @@ help_text =
     codes "  twice    that node was declared before\n" ++
     codes "  tunnel   that node has no such tunnel, or has closed it\n" ++
     codes "  call     that node has no such call\n" ++
-    codes "  packet   no such packet was sent\n" ++
+    codes "  packet   no such packet was sent, or no data packet to that node\n" ++
+    codes "  hand     that node holds no such frame\n" ++
     codes "  down     that node is down\n" ++
     codes "  up       that node is up, so it can't start\n" ++
     codes "\n" ++
@@ -64,6 +67,7 @@ help_text =
     codes "  L send P N M HEX                    packet P goes from node N to node M\n" ++
     codes "  L up N S B SIDE HEX                 node N hands up a frame in its call S, the B-th of all calls, to the\n" ++
     codes "                                      subscriber (sub), to the network (net), or to the call's LCP end (lcp)\n" ++
+    codes "  L held N H                          node N holds frame H, until it is handed up or the node crashes\n" ++
     codes "  L gone N S                          call S of node N ended\n" ++
     codes "  L frame N HEX                       node N sends an Ethernet frame to a PPPoE host\n" ++
     codes "  L drop N WHY                        node N ignores what came\n" ++

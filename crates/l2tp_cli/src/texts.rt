@@ -31,11 +31,13 @@ A schedule is a list of lines, with one space between words:
   hang N S              the subscriber of call S of node N, a LAC, leaves
   drop N S              an operator closes call S of node N
   deliver P             packet P of the report reaches the node that it was sent to
+  load N P              a look at the session of data packet P, which is for node N: its frame is held, or the packet is dropped
+  hand N H              held frame H of node N is handed up, whatever has happened since
   tick N MS             the clock of node N goes on by MS milliseconds, and what is due is done
   crash N               node N crashes: all but what it committed is lost
   stop N C J KEEP       node N is to stop inside its C-th commit from now on, at call J of its disk
   start N               node N, which is down, starts again over what it committed
-N and M are 1 to 255, K, S and T 1 to 65535, P is 1 to 4294967295, MS 0 to 86400000, without leading zeros. HEX is a frame
+N and M are 1 to 255, K, S and T 1 to 65535, P and H 1 to 4294967295, MS 0 to 86400000, without leading zeros. HEX is a frame
 from its protocol field on, 2 to 1494 bytes as hex digits in lower case, and in a frame line an Ethernet frame from its
 destination address on, 1 to 2048 bytes. C is 1 to 255 and J 1 to 4; KEEP is kept, with a J of 3 or 4, where the record that is
 committed there stays, or lost. SECRET is the secret that both ends of a tunnel share, 1 to 64 bytes as hex
@@ -52,7 +54,8 @@ A line that doesn't fit ends the run, which says why:
   twice    that node was declared before
   tunnel   that node has no such tunnel, or has closed it
   call     that node has no such call
-  packet   no such packet was sent
+  packet   no such packet was sent, or no data packet to that node
+  hand     that node holds no such frame
   down     that node is down
   up       that node is up, so it can't start
 
@@ -63,6 +66,7 @@ A report has lines for what is done in line L of the schedule, and ends with wha
   L send P N M HEX                    packet P goes from node N to node M
   L up N S B SIDE HEX                 node N hands up a frame in its call S, the B-th of all calls, to the
                                       subscriber (sub), to the network (net), or to the call's LCP end (lcp)
+  L held N H                          node N holds frame H, until it is handed up or the node crashes
   L gone N S                          call S of node N ended
   L frame N HEX                       node N sends an Ethernet frame to a PPPoE host
   L drop N WHY                        node N ignores what came

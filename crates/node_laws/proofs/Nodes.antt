@@ -9,7 +9,7 @@ use Rattle.wire_base.specs.declared.why.Why.TheVariants as why
 use Rattle.session_book.specs.declared.record.Record.{Record}
 use Rattle.session_book.specs.Books.{Kept, nothing_kept, fits, stepped as with_record}
 use Rattle.schedule_text.specs.declared.line.Line.{Line}
-use Rattle.schedule_text.specs.declared.line.Line.TheVariants.{Remark, Lac, Lns, OpenUp, Close, Ring, Frame, FromSub, Down, Hang, DropCall, Deliver, Tick, Crash, Stop, Start}
+use Rattle.schedule_text.specs.declared.line.Line.TheVariants.{Remark, Lac, Lns, OpenUp, Close, Ring, Frame, FromSub, Down, Hang, DropCall, Deliver, Load, Hand, Tick, Crash, Stop, Start}
 use Rattle.end_names.specs.Names.{address_of, node_of}
 use Rattle.end_names.specs.declared.role.Role.{Role}
 use Rattle.end_names.specs.declared.role.Role.TheVariants as role
@@ -25,10 +25,10 @@ use Rattle.end_model.specs.End.{End, Stepped, plain_step, step}
 use Rattle.end_model.specs.Starting.{bare_end, starts}
 use Rattle.world_model.specs.declared.refusal.Refusal.TheVariants.{Unfit}
 use Rattle.world_model.specs.declared.stop.StopAt.{StopAt}
-use Rattle.world_model.specs.World.{World, Node, Checkpoint, Sender, Lined, Committed, IsFull, IsCut, IsWhole, quiet_line, with_node, with_birth_at, with_birth, birth_of, is_born, moved, moved_all, sent, shown, shown_all, given, after_step, recorded, recorded_all, is_full, with_stop, kept_by, commits_by, commits, fallen, cut_line, committed, declared, lac_at, lns_at, down_at, with_call, with_tunnel, later, new_node, added, block_of, stepped, sender_of, crashed, armed, opened, started, line}
+use Rattle.world_model.specs.World.{World, Node, Checkpoint, Sender, Lined, Committed, IsFull, IsCut, IsWhole, quiet_line, with_node, with_birth_at, with_birth, birth_of, is_born, moved, moved_all, sent, shown, shown_all, given, after_step, recorded, recorded_all, is_full, with_stop, kept_by, commits_by, commits, fallen, without_held, held_line, taken_up, cut_line, committed, declared, lac_at, lns_at, down_at, with_call, with_tunnel, later, new_node, added, block_of, stepped, sender_of, crashed, armed, opened, started, line}
 use Rattle.step_laws.specs.Looks.{LooksAreTrue, LooksStayTrue, LooksBeginTrue}
 use Rattle.step_laws.specs.Steps.{AreKept, StepsAreChains}
-use Rattle.step_laws.specs.Lines.{tested_not, is_running, is_lac_at, is_lns_at, is_declared, is_down_at, has_call, has_tunnel, IsAt, is_at, at_moment, is_later, committed_line, deliver_line}
+use Rattle.step_laws.specs.Lines.{tested_not, is_running, is_lac_at, is_lns_at, is_declared, is_down_at, has_call, has_tunnel, IsAt, is_at, at_moment, is_later, committed_line, deliver_line, load_line, IsHeldAt, hand_line}
 use Rattle.step_laws.specs.Hosts.{LacAt, with_host, entering, OfFrame, frame_line}
 use Rattle.book_laws.specs.Books.{IsBook, Fits, AreInPlace, book_after, StepsAreBooked, NewEndsAreBooked}
 use Rattle.node_laws.specs.Nodes.{IsSoundBook, HoldsNode, CountsAll, StaysSo}
@@ -366,43 +366,57 @@ module _ (P : End → Type 0) (so : StaysSo P) where
               let same : is.before ≡ l.node = cc in
               ap (λ (x : Node). x.up) is.same ∙ ap (λ (x : Node). x.up) same ∙ l.up
 
+    module _ (w : World) (number : ℕ) (holds : WorldHolds P so w) where
       pub line_holds : (x : Lined) (l : Line) → line w number l ≡ Ok x → WorldHolds P so x.world
-      unfolding line crashed armed
+      unfolding line crashed armed held_line
       line_holds x (Remark text) h = let e : quiet_line w ≡ x = cc in subst (λ (l : Lined). WorldHolds P so l.world) e holds
-      line_holds x (Lac n m secret hide) h = added_holds n role.Lac (address_of m) secret hide x h
-      line_holds x (Lns n secret) h = added_holds n role.Lns 0 secret false x h
-      line_holds x (OpenUp n) h = stepped_holds x n event.OpenTunnel None (lac_at (at w.nodes n)) (λ node e. lac_there n node e) h
+      line_holds x (Lac n m secret hide) h = added_holds w number holds n role.Lac (address_of m) secret hide x h
+      line_holds x (Lns n secret) h = added_holds w number holds n role.Lns 0 secret false x h
+      line_holds x (OpenUp n) h = stepped_holds w number holds x n event.OpenTunnel None (lac_at (at w.nodes n)) (λ node e. lac_there w number holds n node e) h
       line_holds x (Close n i) h =
-          stepped_holds x n (event.CloseTunnel i) None (with_tunnel i (declared (at w.nodes n)))
-          (λ node e. any_there n node (has_tunnel i (declared (at w.nodes n)) node e)) h
-      line_holds x (Ring n port) h = stepped_holds x n (event.Ring port) None (lac_at (at w.nodes n)) (λ node e. lac_there n node e) h
-      line_holds x (Frame n bytes) h = frame_line (λ (y : Lined). WorldHolds P so y.world) w number n bytes (of_frame n bytes) x h
+          stepped_holds w number holds x n (event.CloseTunnel i) None (with_tunnel i (declared (at w.nodes n)))
+          (λ node e. any_there w number holds n node (has_tunnel i (declared (at w.nodes n)) node e)) h
+      line_holds x (Ring n port) h = stepped_holds w number holds x n (event.Ring port) None (lac_at (at w.nodes n)) (λ node e. lac_there w number holds n node e) h
+      line_holds x (Frame n bytes) h = frame_line (λ (y : Lined). WorldHolds P so y.world) w number n bytes (of_frame w number holds n bytes) x h
       line_holds x (FromSub n session frame) h =
-          stepped_holds x n (event.Payload session frame) None (with_call session (lac_at (at w.nodes n)))
-          (λ node e. lac_there n node (has_call session (lac_at (at w.nodes n)) node e)) h
+          stepped_holds w number holds x n (event.Payload session frame) None (with_call session (lac_at (at w.nodes n)))
+          (λ node e. lac_there w number holds n node (has_call session (lac_at (at w.nodes n)) node e)) h
       line_holds x (Down n session frame) h =
-          stepped_holds x n (event.Lower session frame) None (with_call session (lns_at (at w.nodes n)))
-          (λ node e. lns_there n node (has_call session (lns_at (at w.nodes n)) node e)) h
+          stepped_holds w number holds x n (event.Lower session frame) None (with_call session (lns_at (at w.nodes n)))
+          (λ node e. lns_there w number holds n node (has_call session (lns_at (at w.nodes n)) node e)) h
       line_holds x (Hang n session) h =
-          stepped_holds x n (event.Hang session) None (with_call session (lac_at (at w.nodes n)))
-          (λ node e. lac_there n node (has_call session (lac_at (at w.nodes n)) node e)) h
+          stepped_holds w number holds x n (event.Hang session) None (with_call session (lac_at (at w.nodes n)))
+          (λ node e. lac_there w number holds n node (has_call session (lac_at (at w.nodes n)) node e)) h
       line_holds x (DropCall n session) h =
-          stepped_holds x n (event.DropCall session) None (with_call session (declared (at w.nodes n)))
-          (λ node e. any_there n node (has_call session (declared (at w.nodes n)) node e)) h
+          stepped_holds w number holds x n (event.DropCall session) None (with_call session (declared (at w.nodes n)))
+          (λ node e. any_there w number holds n node (has_call session (declared (at w.nodes n)) node e)) h
       line_holds x (Deliver p) h = deliver_line (WorldHolds P so x.world) w number x (line w number (Deliver p)) (slice_get w.packets (p - 1))
           (λ q node found is up young comes leads.
-          stepped_holds x q.to (event.Datagram (address_of q.from) q.bytes) (sender_of q.from q.origin) (Ok node)
-          (λ y e. (let same : node ≡ y = cc in subst (λ (z : Node). HoldsWith P so z × (z.up ≡ true)) same (there q.to node is up))) leads)
+          stepped_holds w number holds x q.to (event.Datagram (address_of q.from) q.bytes) (sender_of q.from q.origin) (Ok node)
+          (λ y e. (let same : node ≡ y = cc in subst (λ (z : Node). HoldsWith P so z × (z.up ≡ true)) same (there w number holds q.to node is up))) leads)
           refl h
+      line_holds x (Load n p) h = load_line (λ (y : Lined). WorldHolds P so y.world) w number n (slice_get w.packets (p - 1))
+          (record { dropped = λ word other. holds; held = λ f is. holds }) x h
+      line_holds x (Hand n p) h = hand_line (λ (y : Lined). WorldHolds P so y.world) w number n p
+          (record {
+            passed = λ k other. holds;
+            heard = λ k y lcp steps whole. heard k y steps;
+            cut = λ k y lcp steps off. heard k y steps;
+          }) x h
+        where
+          heard : (k : IsHeldAt w n p) (y : Lined) → stepped (taken_up w n p) number n (event.Lcp k.frame.session k.frame.frame) None (Ok k.node) ≡ Ok y → WorldHolds P so y.world
+          heard k y steps =
+              stepped_holds (taken_up w n p) number holds y n (event.Lcp k.frame.session k.frame.frame) None (Ok k.node)
+              (λ q e. (let same : k.node ≡ q = cc in subst (λ (z : Node). HoldsWith P so z × (z.up ≡ true)) same (there w number holds n k.node k.there k.up))) steps
       line_holds x (Tick n milliseconds) h =
-          stepped_holds x n event.Tick None (later milliseconds (declared (at w.nodes n)))
+          stepped_holds w number holds x n event.Tick None (later milliseconds (declared (at w.nodes n)))
           (λ node e. (at_holds P so w number holds n node (at_moment w n node (is_later w n milliseconds node e)), later_up milliseconds (at w.nodes n) node e)) h
       line_holds x (Crash n) h = by (declared (at w.nodes n)) (λ node e. is_declared (at w.nodes n) node e) h
         where
           by : (o : Result Node Why) → ((node : Node) → o ≡ Ok node → at w.nodes n ≡ Some node) → crashed w number n o ≡ Ok x → WorldHolds P so x.world
           by (Err y) is h = absurd (cc)
           by (Ok node) is h =
-              let e : quiet_line (with_node w n (fallen (block_of n number) node node.checkpoint)) ≡ x = cc in
+              let e : quiet_line (without_held (with_node w n (fallen (block_of n number) node node.checkpoint)) n) ≡ x = cc in
               let fell = fallen_holds P so (block_of n number) node node.checkpoint (holds n node (is node refl)).0.sound in
               subst (λ (l : Lined). WorldHolds P so l.world) e (put_holds P so w n (fallen (block_of n number) node node.checkpoint) holds fell)
       line_holds x (Stop n commit call kept) h = by (declared (at w.nodes n)) (λ node e. is_declared (at w.nodes n) node e) h

@@ -10,5 +10,5 @@ pub use age::too_old;
 pub use agreeing::{agree, session_count};
 pub use texts::{
     push_agree, push_call, push_cause, push_down, push_drop, push_farewell, push_frame, push_gone,
-    push_refusal, push_send, push_stopped, push_tunnel, push_up,
+    push_held, push_refusal, push_send, push_stopped, push_tunnel, push_up,
 };

@@ -4,7 +4,7 @@ ghost use Rattle.std.specs.Prelude.{◌≡◌, ◌≤◌, ◌++◌, codes, lengt
 ghost use Rattle.std.specs.Fmt.{decimal};
 ghost use Rattle.hex.specs.Hex.{encode_lower};
 ghost use Rattle.end_names.specs.Names.{node_of};
-ghost use Rattle.world_model.specs.Texts.{◌&◌, send_text, side_word, up_text, gone_text, frame_text, farewell_text, drop_text, cause_text, stopped_text};
+ghost use Rattle.world_model.specs.Texts.{◌&◌, send_text, side_word, up_text, held_text, gone_text, frame_text, farewell_text, drop_text, cause_text, stopped_text};
 ghost use Rattle.world_model.specs.Run.{tunnel_text, call_text, agree_text, down_text, unfit_text, half_space_text, store_full_text, refusal_text};
 
 use end_model::{Call, Control, node_of};
@@ -123,6 +123,18 @@ pub fn push_up(
     push_count(out, birth)?;
     push_word(out, side_word(side))?;
     push_hex(out, frame)?;
+    out.push_slice(b"\n")
+}
+
+/// A frame that is held: the line, the node, and the frame's number.
+#[tactic(auto, unfolding(world_model::specs::Texts::held_text))]
+pub fn push_held(out: &mut Bytes, line: u64, node: u8, number: u32) -> Result<(), NoMemory>
+    ensures { OnOk result (out.new ≡ out.old ++ held_text line node number) }
+{
+    push_number(out, line)?;
+    push_word(out, b"held")?;
+    push_count(out, u64::from(node))?;
+    push_count(out, u64::from(number))?;
     out.push_slice(b"\n")
 }
 

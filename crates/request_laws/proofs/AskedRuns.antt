@@ -1,5 +1,5 @@
 -- A node asks for each of its calls once, in every run.
-use Rattle.std.proofs.Common.{◌≡◌, ⊎_elim, ℕ, List, [], ◌++◌, refl, sym, ap, ◌∙◌, subst, append-nil, Option, Some, None, arith, Bool}
+use Rattle.std.proofs.Common.{◌≡◌, ⊎_elim, ℕ, List, [], ◌∷◌, ◌++◌, append_assoc, refl, sym, ap, ◌∙◌, subst, append-nil, Option, Some, None, arith, Bool}
 use Rattle.std.proofs.lemmas.Option.{none-some}
 use mathlib.Core.Path.{fun_ext}
 use Rattle.id_table.specs.Ids.{at, put, at-none}
@@ -14,17 +14,19 @@ use Rattle.end_model.specs.declared.tunnel.Call.{Call}
 use Rattle.end_names.specs.declared.role.Role.{Role}
 use Rattle.end_model.specs.Secrets.{uncovered_event}
 use Rattle.end_model.specs.End.{End, Stepped, step}
-use Rattle.world_model.specs.World.{World, Node, Checkpoint, Sender, Deed, Lined, new_node, with_node, block_of}
+use Rattle.world_model.specs.declared.held.Held.{Held}
+use Rattle.world_model.specs.World.{World, Node, Checkpoint, Sender, Deed, Lined, new_node, with_node, taken_up, hand_deed, block_of}
 use Rattle.world_model.specs.Run.{Run, after_line, run}
 use Rattle.step_laws.specs.Calm.{AreCalm}
 use Rattle.step_laws.specs.Steps.{AreKept, StepsAreChains}
 use Rattle.frame_laws.specs.Facts.{FactsOfRuns}
 use Rattle.connection_laws.specs.Accounts.{no_account, account_from, account_of}
+use Rattle.connection_laws.proofs.Lines.{hand_keeps}
 use Rattle.request_laws.specs.Requests.{IsAskedAt, AskedInRuns, IsDrawnAtLac, DrawnAtLacsInRuns}
 use Rattle.request_laws.proofs.Asked.{Asking, IsCall, Known, Ordered, AskOk}
 use Rattle.request_laws.proofs.Deeds.{KeepsLetters, deeds, deeds_elsewhere, account_from-append}
 use Rattle.request_laws.proofs.Chains.{asks_on}
-use Rattle.request_laws.proofs.Lines.{told_line, LineDoes, Nothing, Declares, Steps, step_of, line_does}
+use Rattle.request_laws.proofs.Lines.{told_line, LineDoes, Nothing, Declares, Steps, LineIs, ByItself, Holds, BehindHand, step_of, line_is}
 use Rattle.request_laws.proofs.Worlds.{step_done, step_follows, after_moves}
 use Rattle.request_laws.proofs.Runs.{Reached, reached_is, holds_in_runs}
 
@@ -175,23 +177,44 @@ module _ (r : Run) (ok : RunAsks r) where
         rw (f.others q other) (nodes_ask r.done (r.done ++ x.done) q (at r.world.nodes q) same (ok q)))
         (same_or_not q n)
 
+-- a frame that is handed up tells of no letter
+pub hand_known : (ds : List Deed) (line n : ℕ) (role : Role) (f : Held) (q : ℕ) → account_of (ds ++ hand_deed line n role f ∷ []) q ≡ account_of ds q
+unfolding account_from
+hand_known ds line n role f q =
+    fun_ext (λ i. account_from-append ds (hand_deed line n role f ∷ []) q i no_account ∙ hand_keeps line n role f q i (account_of ds q i))
+
 module _ (chains : StepsAreChains) (facts : FactsOfRuns) where
   kept_now : (number : ℕ) (before : List Line) (r : Run) → Reached number before r → (n : ℕ) (node : Node) → at r.world.nodes n ≡ Some node → AreKept node.end
   kept_now number before r h n node there =
       let is = reached_is number before r h in
       ((facts before h.fit h.calm).nodes n node (subst (λ (q : Run). at q.world.nodes n ≡ Some node) (sym is) there)).kept
 
-  line_asks : (number : ℕ) (before : List Line) (r : Run) → Reached number before r → RunAsks r → (x : Lined) → LineDoes r.world number x
+  does_asks : (number : ℕ) (r : Run) → ((n : ℕ) (node : Node) → at r.world.nodes n ≡ Some node → AreKept node.end) → RunAsks r → (x : Lined)
+      → LineDoes r.world number x → RunAsks (after_line r x)
+  does_asks number r kept ok x (Nothing es e) = quiet_asks r ok x es e
+  does_asks number r kept ok x (Declares n role lns secret hide none es e) = declared_asks r ok x number n role lns secret hide none es e
+  does_asks number r kept ok x (Steps n old clock access checkpoint ev sender es there from e) =
+      subst (λ y. RunAsks (after_line r y)) (sym e) (step_asks r ok chains kept number n old clock access checkpoint ev sender there)
+
+  line_asks : (number : ℕ) (before : List Line) (r : Run) → Reached number before r → RunAsks r → (x : Lined) → LineIs r.world number x
       → RunAsks (after_line r x)
-  line_asks number before r h ok x (Nothing es e) = quiet_asks r ok x es e
-  line_asks number before r h ok x (Declares n role lns secret hide none es e) = declared_asks r ok x number n role lns secret hide none es e
-  line_asks number before r h ok x (Steps n old clock access checkpoint ev sender es there from e) =
-      subst (λ y. RunAsks (after_line r y)) (sym e) (step_asks r ok chains (kept_now number before r h) number n old clock access checkpoint ev sender there)
+  line_asks number before r h ok x (ByItself d) = does_asks number r (kept_now number before r h) ok x d
+  line_asks number before r h ok x (Holds done nodes) = λ q.
+      subst (λ (ns : List (ℕ × Node)). NodeAsks (r.done ++ x.done) q (at ns q)) (sym nodes)
+      (nodes_ask r.done (r.done ++ x.done) q (at r.world.nodes q) (nothing_done r.done x.done done q) (ok q))
+  line_asks number before r h ok x (BehindHand y n held role f is d) =
+      let one = hand_deed number n role f in
+      let up : Run = record r { world = taken_up r.world n held; done = r.done ++ one ∷ [] } in
+      let asks : RunAsks up = λ q.
+      nodes_ask r.done (r.done ++ one ∷ []) q (at r.world.nodes q)
+      (still_same (account_of r.done q) (account_of (r.done ++ one ∷ []) q) (hand_known r.done number n role f q)) (ok q) in
+      let then = does_asks number up (kept_now number before r h) asks y d in
+      subst (λ z. RunAsks (after_line r z)) (sym is) (λ q. subst (λ ds. NodeAsks ds q (at y.world.nodes q)) (append_assoc r.done (one ∷ []) y.done) (then q))
 
   pub asks_in_runs : (lines : List Line) → AreLines lines → AreCalm lines → RunAsks (run lines)
   unfolding account_from
   asks_in_runs lines fits calm =
-      holds_in_runs RunAsks (λ number before r h ok l x calm is. line_asks number before r h ok x (line_does r.world h.world number x l calm is)) (λ r fault ok. ok)
+      holds_in_runs RunAsks (λ number before r h ok l x calm is. line_asks number before r h ok x (line_is r.world h.world number x l calm is)) (λ r fault ok. ok)
       (λ n. rw (at-none n) (λ i. refl)) lines fits calm
 
 -- ---- requests

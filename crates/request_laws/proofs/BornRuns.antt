@@ -1,5 +1,5 @@
 -- Two sessions of LNSs with one birth are one, in every run.
-use Rattle.std.proofs.Common.{◌≡◌, ⊎_elim, ℕ, ◌<◌, List, ◌++◌, sym, ap, ◌∙◌, subst, Option, Some, None, slice_get, arith, Bool}
+use Rattle.std.proofs.Common.{◌≡◌, ⊎_elim, ℕ, ◌<◌, List, [], ◌∷◌, ◌++◌, append_assoc, sym, ap, ◌∙◌, subst, Option, Some, None, slice_get, arith, Bool}
 use Rattle.std.proofs.lemmas.Option.{none-some}
 use Rattle.id_table.specs.Ids.{at, put, at-none}
 use Rattle.id_table.specs.Order.{at_new, found_put, same_or_not}
@@ -19,7 +19,7 @@ use Rattle.end_names.specs.declared.role.Role.TheVariants.{Lns}
 use Rattle.end_names.specs.Names.{address_of, node_of}
 use Rattle.end_model.specs.Secrets.{uncovered_event}
 use Rattle.end_model.specs.End.{End, Stepped, step}
-use Rattle.world_model.specs.World.{World, Node, Checkpoint, Sender, Deed, Lined, new_node, with_node, block_of, sender_of}
+use Rattle.world_model.specs.World.{World, Node, Checkpoint, Sender, Deed, Lined, new_node, with_node, taken_up, hand_deed, block_of, sender_of}
 use Rattle.world_model.specs.Run.{Run, after_line, run}
 use Rattle.step_laws.specs.Calm.{AreCalm}
 use Rattle.step_laws.specs.Steps.{StepsAreChains}
@@ -34,10 +34,10 @@ use Rattle.request_laws.proofs.Lists.{all_at}
 use Rattle.request_laws.proofs.Asked.{Known}
 use Rattle.request_laws.proofs.Deeds.{deeds}
 use Rattle.request_laws.proofs.Chains.{known_then}
-use Rattle.request_laws.proofs.Lines.{IsFrom, OfNobody, OfPacket, uncovered_from, told_line, LineDoes, Nothing, Declares, Steps, step_of, line_does}
+use Rattle.request_laws.proofs.Lines.{IsFrom, OfNobody, OfPacket, uncovered_from, told_line, LineDoes, Nothing, Declares, Steps, LineIs, ByItself, Holds as HeldLine, BehindHand, step_of, line_is}
 use Rattle.request_laws.proofs.Worlds.{step_nodes, step_done, step_follows, before_moves, after_moves}
 use Rattle.request_laws.proofs.Runs.{Reached, reached_is, holds_in_runs}
-use Rattle.request_laws.proofs.AskedRuns.{StillKnown, known_more, known_elsewhere, kept_order, nothing_done, asked_in_runs, drawn_at_lacs_in_runs}
+use Rattle.request_laws.proofs.AskedRuns.{StillKnown, still_same, hand_known, known_more, known_elsewhere, kept_order, nothing_done, asked_in_runs, drawn_at_lacs_in_runs}
 use Rattle.request_laws.proofs.Made.{heeds, taken_request, sent_by_partner, made_once}
 use Rattle.request_laws.proofs.Births.{Drawn, Told, BirthsStay, Tells, tells_later, ComesFrom, BornOk, Bears, born_on, birth_there, put_stays}
 
@@ -197,18 +197,40 @@ module _ (r : Run) (ok : RunTells r) where
         (same_or_not q n))
 
 module _ (chains : StepsAreChains) (facts : FactsOfRuns) where
-  line_tells : (number : ℕ) (before : List Line) (r : Run) → Reached number before r → RunTells r → (x : Lined) → LineDoes r.world number x
-      → RunTells (after_line r x)
-  line_tells number before r h ok x (Nothing es e) = quiet_tells r ok x es e
-  line_tells number before r h ok x (Declares n role lns secret hide none es e) = declared_tells r ok x number n role lns secret hide none es e
-  line_tells number before r h ok x (Steps n old clock access checkpoint ev sender es there from e) =
-      let gs = (past_of before).sent in
-      let now : Holds r.world gs = subst (λ (q : Run). Holds q.world gs) (reached_is number before r h) (facts before h.fit h.calm) in
+  does_tells : (number : ℕ) (r : Run) (gs : List Passage) → Holds r.world gs → RunTells r → (x : Lined) → LineDoes r.world number x → RunTells (after_line r x)
+  does_tells number r gs now ok x (Nothing es e) = quiet_tells r ok x es e
+  does_tells number r gs now ok x (Declares n role lns secret hide none es e) = declared_tells r ok x number n role lns secret hide none es e
+  does_tells number r gs now ok x (Steps n old clock access checkpoint ev sender es there from e) =
       subst (λ y. RunTells (after_line r y)) (sym e) (step_tells r ok chains gs now number n old clock access checkpoint ev sender there from)
+
+  -- what is known changes with no frame that is held or handed up
+  still_tells : (ns : Nodes) (ds es : List Deed) → ((q : ℕ) → StillKnown (account_of ds q) (account_of es q)) → ((q : ℕ) (node : Node) → at ns q ≡ Some node → NodeTells ns (account_of ds q) node)
+      → (q : ℕ) (node : Node) → at ns q ≡ Some node → NodeTells ns (account_of es q) node
+  still_tells ns ds es same ok q node f = node_tells_later ns ns (λ m k c h. h) (account_of ds q) (account_of es q) (same q) node (ok q node f)
+
+  holds_now : (number : ℕ) (before : List Line) (r : Run) → Reached number before r → Holds r.world (past_of before).sent
+  holds_now number before r h = subst (λ (q : Run). Holds q.world (past_of before).sent) (reached_is number before r h) (facts before h.fit h.calm)
+
+  line_tells : (number : ℕ) (before : List Line) (r : Run) → Reached number before r → RunTells r → (x : Lined) → LineIs r.world number x
+      → RunTells (after_line r x)
+  line_tells number before r h ok x (ByItself d) = does_tells number r (past_of before).sent (holds_now number before r h) ok x d
+  line_tells number before r h ok x (HeldLine done nodes) = λ q node f.
+      subst (λ (ns : Nodes). NodeTells ns (account_of (r.done ++ x.done) q) node) (sym nodes)
+      (still_tells r.world.nodes r.done (r.done ++ x.done) (λ k. nothing_done r.done x.done done k) ok q node (rw (← nodes) f))
+  line_tells number before r h ok x (BehindHand y n held role g is d) =
+      let one = hand_deed number n role g in
+      let up : Run = record r { world = taken_up r.world n held; done = r.done ++ one ∷ [] } in
+      let now = holds_now number before r h in
+      let tells : RunTells up =
+      still_tells r.world.nodes r.done (r.done ++ one ∷ [])
+      (λ k. still_same (account_of r.done k) (account_of (r.done ++ one ∷ []) k) (hand_known r.done number n role g k)) ok in
+      let then = does_tells number up (past_of before).sent (record { nodes = now.nodes; packets = now.packets }) tells y d in
+      subst (λ z. RunTells (after_line r z)) (sym is)
+      (λ q node f. subst (λ ds. NodeTells y.world.nodes (account_of ds q) node) (append_assoc r.done (one ∷ []) y.done) (then q node f))
 
   pub tells_in_runs : (lines : List Line) → AreLines lines → AreCalm lines → RunTells (run lines)
   tells_in_runs lines fits calm =
-      holds_in_runs RunTells (λ number before r h ok l x calm is. line_tells number before r h ok x (line_does r.world h.world number x l calm is)) (λ r fault ok. ok)
+      holds_in_runs RunTells (λ number before r h ok l x calm is. line_tells number before r h ok x (line_is r.world h.world number x l calm is)) (λ r fault ok. ok)
       (λ n node f. absurd (none-some node (sym (at-none n) ∙ f))) lines fits calm
 
 -- ---- sessions of LNSs

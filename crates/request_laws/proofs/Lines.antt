@@ -1,11 +1,12 @@
 -- What a line does: nothing, or a node is declared, or a node makes a step.
 use Rattle.std.proofs.Common.{◌≡◌, ℕ, ◌-◌, false, List, [], refl, sym, ap, ◌∙◌, subst, Option, Some, None, Result, Ok, Bool, ◌∷◌, ◌++◌}
+use Rattle.std.proofs.lemmas.Bool.{true≢false}
 use Rattle.std.specs.Prelude.{is_some, slice_get}
 use Rattle.id_table.specs.Ids.{at}
 use Rattle.wire_base.specs.declared.why.Why.{Why}
 use Rattle.wire_base.specs.declared.why.Why.TheVariants as why
 use Rattle.schedule_text.specs.declared.line.Line.{Line}
-use Rattle.schedule_text.specs.declared.line.Line.TheVariants.{Remark, Lac, Lns, OpenUp, Close, Ring, Frame, FromSub, Down, Hang, DropCall, Deliver, Tick, Crash, Stop, Start}
+use Rattle.schedule_text.specs.declared.line.Line.TheVariants.{Remark, Lac, Lns, OpenUp, Close, Ring, Frame, FromSub, Down, Hang, DropCall, Deliver, Load, Hand, Tick, Crash, Stop, Start}
 use Rattle.end_model.specs.declared.event.Event.{Event}
 use Rattle.end_model.specs.declared.event.Event.TheVariants as event
 use Rattle.world_model.specs.declared.packet.Packet.{Packet}
@@ -18,9 +19,10 @@ use Rattle.end_model.specs.End.{step}
 use Rattle.end_model.specs.Access.{Access}
 use Rattle.world_model.specs.Texts.{Entry, Drops, Frames}
 use Rattle.step_laws.specs.Hosts.{LacAt, with_host, entering, reply_to, OfFrame, frame_line}
-use Rattle.step_laws.specs.Lines.{tested_not, is_lac_at, is_lns_at, is_declared, has_call, has_tunnel, none_there, IsAt, at_moment, is_at, is_later, deliver_line}
-use Rattle.step_laws.specs.Calm.{IsCalm, WorldIsCalm, at_calm, calm_step}
-use Rattle.world_model.specs.World.{World, Node, Checkpoint, Sender, Lined, quiet_line, with_node, after_step, declared, lac_at, lns_at, with_call, with_tunnel, later, new_node, answer_entries, added, block_of, stepped, sender_of, delivers, line}
+use Rattle.step_laws.specs.Lines.{tested_not, is_lac_at, is_lns_at, is_declared, has_call, has_tunnel, none_there, IsAt, at_moment, is_at, is_later, deliver_line, OfLoad, load_line, IsHeldAt, OfHand, hand_line}
+use Rattle.step_laws.specs.Calm.{IsCalm, NodeIsCalm, WorldIsCalm, at_calm, calm_step}
+use Rattle.world_model.specs.declared.held.Held.{Held}
+use Rattle.world_model.specs.World.{World, Node, Checkpoint, Sender, Lined, held_line, taken_up, behind_hand, quiet_line, with_node, after_step, declared, lac_at, lns_at, with_call, with_tunnel, later, new_node, answer_entries, added, block_of, given, stepped, sender_of, delivers, line}
 
 -- ---- what a line does
 
@@ -52,6 +54,12 @@ pub data LineDoes (w : World) (number : ℕ) (x : Lined) : Type 0 where
   Steps : (n : ℕ) (old : Node) (clock : ℕ) (access : Option Access) (checkpoint : Checkpoint) (ev : Event) (sender : Option Sender) (es : List Entry)
       → at w.nodes n ≡ Some old → IsFrom w sender ev
       → x ≡ record (step_of w number n (record old { clock = clock; access = access; checkpoint = checkpoint }) ev sender) { entries = es } → LineDoes w number x
+
+-- that alone; or a frame is held, which changes no node; or a frame that a node held is handed up before that
+pub data LineIs (w : World) (number : ℕ) (x : Lined) : Type 0 where
+  ByItself : LineDoes w number x → LineIs w number x
+  Holds : x.done ≡ [] → x.world.nodes ≡ w.nodes → LineIs w number x
+  BehindHand : (y : Lined) (n held : ℕ) (r : Role) (f : Held) → x ≡ behind_hand number n r f y → LineDoes (taken_up w n held) number y → LineIs w number x
 
 -- ---- lines
 
@@ -112,35 +120,75 @@ module _ (w : World) (calm : WorldIsCalm w) (number : ℕ) (x : Lined) where
       (OfPacket k p (sent ∙ found) refl p.bytes refl) leads)
       refl h
 
-  pub line_does : (l : Line) → IsCalm l → line w number l ≡ Ok x → LineDoes w number x
+  -- a line that doesn't carry a data packet in two steps
+  abbrev IsPlain : Line → Type 0
+  IsPlain (Load n k) = ⊥
+  IsPlain (Hand n k) = ⊥
+  IsPlain l = Unit {0}
+
+  line_does : (l : Line) → IsCalm l → IsPlain l → line w number l ≡ Ok x → LineDoes w number x
   unfolding line
-  line_does (Remark text) is h = let e : quiet_line w ≡ x = cc in Nothing [] (sym e)
-  line_does (Lac n m secret hide) is h = added_does w calm number x n role.Lac (address_of m) secret hide h
-  line_does (Lns n secret) is h = added_does w calm number x n role.Lns 0 secret false h
-  line_does (OpenUp n) is h =
+  line_does (Remark text) is plain h = let e : quiet_line w ≡ x = cc in Nothing [] (sym e)
+  line_does (Lac n m secret hide) is plain h = added_does w calm number x n role.Lac (address_of m) secret hide h
+  line_does (Lns n secret) is plain h = added_does w calm number x n role.Lns 0 secret false h
+  line_does (OpenUp n) is plain h =
       stepped_does w calm number x n event.OpenTunnel None (lac_at (at w.nodes n)) (λ node e. is_at w n node ((is_lac_at (at w.nodes n) node e).0)) (OfNobody refl) h
-  line_does (Close n i) is h =
+  line_does (Close n i) is plain h =
       stepped_does w calm number x n (event.CloseTunnel i) None (with_tunnel i (declared (at w.nodes n)))
       (λ node e. is_at w n node (is_declared (at w.nodes n) node (has_tunnel i (declared (at w.nodes n)) node e))) (OfNobody refl) h
-  line_does (Ring n port) is h =
+  line_does (Ring n port) is plain h =
       stepped_does w calm number x n (event.Ring port) None (lac_at (at w.nodes n)) (λ node e. is_at w n node ((is_lac_at (at w.nodes n) node e).0)) (OfNobody refl) h
-  line_does (Frame n bytes) is h = frame_line (LineDoes w number) w number n bytes (of_frame w calm number n bytes) x h
-  line_does (FromSub n session frame) is h =
+  line_does (Frame n bytes) is plain h = frame_line (LineDoes w number) w number n bytes (of_frame w calm number n bytes) x h
+  line_does (FromSub n session frame) is plain h =
       stepped_does w calm number x n (event.Payload session frame) None (with_call session (lac_at (at w.nodes n)))
       (λ node e. is_at w n node ((is_lac_at (at w.nodes n) node (has_call session (lac_at (at w.nodes n)) node e)).0)) (OfNobody refl) h
-  line_does (Down n session frame) is h =
+  line_does (Down n session frame) is plain h =
       stepped_does w calm number x n (event.Lower session frame) None (with_call session (lns_at (at w.nodes n)))
       (λ node e. is_at w n node ((is_lns_at (at w.nodes n) node (has_call session (lns_at (at w.nodes n)) node e)).0)) (OfNobody refl) h
-  line_does (Hang n session) is h =
+  line_does (Hang n session) is plain h =
       stepped_does w calm number x n (event.Hang session) None (with_call session (lac_at (at w.nodes n)))
       (λ node e. is_at w n node ((is_lac_at (at w.nodes n) node (has_call session (lac_at (at w.nodes n)) node e)).0)) (OfNobody refl) h
-  line_does (DropCall n session) is h =
+  line_does (DropCall n session) is plain h =
       stepped_does w calm number x n (event.DropCall session) None (with_call session (declared (at w.nodes n)))
       (λ node e. is_at w n node (is_declared (at w.nodes n) node (has_call session (declared (at w.nodes n)) node e))) (OfNobody refl) h
-  line_does (Deliver k) is h = delivers_does (k - 1) (slice_get w.packets (k - 1)) refl h
-  line_does (Tick n milliseconds) is h =
+  line_does (Deliver k) is plain h = delivers_does (k - 1) (slice_get w.packets (k - 1)) refl h
+  line_does (Load n k) is plain h = absurd plain
+  line_does (Hand n k) is plain h = absurd plain
+  line_does (Tick n milliseconds) is plain h =
       stepped_does w calm number x n event.Tick None (later milliseconds (declared (at w.nodes n)))
       (λ node e. at_moment w n node (is_later w n milliseconds node e)) (OfNobody refl) h
-  line_does (Crash n) is h = absurd is
-  line_does (Stop n commit call kept) is h = absurd is
-  line_does (Start n) is h = absurd is
+  line_does (Crash n) is plain h = absurd is
+  line_does (Stop n commit call kept) is plain h = absurd is
+  line_does (Start n) is plain h = absurd is
+
+module _ (w : World) (calm : WorldIsCalm w) (number : ℕ) where
+  load_is : (n : ℕ) (o : Option Packet) → OfLoad (LineIs w number) w number n o
+  unfolding held_line
+  load_is n o = record { dropped = λ word other. ByItself (Nothing (Drops number n word ∷ []) refl); held = λ f is. Holds refl refl }
+
+  module _ (n held : ℕ) (k : IsHeldAt w n held) (y : Lined)
+      (steps : stepped (taken_up w n held) number n (event.Lcp k.frame.session k.frame.frame) None (Ok k.node) ≡ Ok y) where
+    heard_does : LineDoes (taken_up w n held) number y
+    heard_does =
+        stepped_does (taken_up w n held) calm number y n (event.Lcp k.frame.session k.frame.frame) None (Ok k.node)
+        (λ q e. (let same : k.node ≡ q = cc in rw (← same) (is_at (taken_up w n held) n k.node k.there))) (OfNobody refl) steps
+
+    not_cut : y.cut ≡ false
+    unfolding after_step given
+    not_cut =
+        calm_step (y.cut ≡ false) (taken_up w n held) number y n (event.Lcp k.frame.session k.frame.frame) None (Ok k.node)
+        (λ q e. (let same : k.node ≡ q = cc in subst NodeIsCalm same (calm n k.node k.there)))
+        (λ q e c whole made. sym (ap (λ (z : Lined). z.cut) made)) steps
+
+  hand_is : (n held : ℕ) → OfHand (LineIs w number) w number n held
+  hand_is n held = record {
+    passed = λ k other. BehindHand (quiet_line (taken_up w n held)) n held k.node.end.role k.frame refl (Nothing [] refl);
+    heard = λ k y lcp steps whole. BehindHand y n held k.node.end.role k.frame refl (heard_does n held k y steps);
+    cut = λ k y lcp steps off. absurd (true≢false (sym off ∙ not_cut n held k y steps));
+  }
+
+  pub line_is : (x : Lined) (l : Line) → IsCalm l → line w number l ≡ Ok x → LineIs w number x
+  unfolding line
+  line_is x (Load n k) is h = load_line (LineIs w number) w number n (slice_get w.packets (k - 1)) (load_is n (slice_get w.packets (k - 1))) x h
+  line_is x (Hand n k) is h = hand_line (LineIs w number) w number n k (hand_is n k) x h
+  line_is x l is h = ByItself (line_does w calm number x l is tt h)

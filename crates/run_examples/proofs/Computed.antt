@@ -2,6 +2,7 @@
 use Rattle.std.proofs.Common.{refl}
 use Rattle.run_examples.specs.Crossing.{FramesCross}
 use Rattle.run_examples.specs.Endings.{CallsEndOnce}
+use Rattle.run_examples.specs.Held.{FramesAreHeld}
 use Rattle.run_examples.specs.Leaving.{StepsLeaveRecords, left_on, left_from}
 use Rattle.run_examples.specs.Messages.{MessagesAreTakenInOrder, MessagesAreAcknowledged, WindowsAreKept, OpeningsComeOnce}
 use Rattle.run_examples.specs.Outlived.{OldPacketsAreRefused}
@@ -26,6 +27,10 @@ calls_are_refused = record { entries = refl; tables = refl }
 pub calls_end_once : CallsEndOnce
 unfolding computing
 calls_end_once = record { entries = refl; of_lns = refl; of_lac = refl; tables = refl }
+
+pub frames_are_held : FramesAreHeld
+unfolding computing
+frames_are_held = record { entries = refl; sent = refl }
 
 pub letters_owed_are_counted : LettersOwedAreCounted
 unfolding computing

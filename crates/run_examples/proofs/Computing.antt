@@ -36,7 +36,7 @@ use Rattle.end_model.specs.Secrets.{uncovered_datagram}
 use Rattle.end_model.specs.End.{gives_only, placed, with_look, with_looks, after_turn, after_new, in_new, in_one_more, in_main, known_as, opens_once, addressed, main_of, reached_by, reached_plain, against_opening, against_body, declined, opens_or_declines, for_addressee, least_in, rings_in, rings_at, for_call, then_heard, handed, hands_up, receives, only_by, step_in, plain_step}
 use Rattle.end_model.specs.Contents.{records_of, contents_of}
 use Rattle.end_model.specs.Starting.{gone_with, all_gone, all_cleared, starts, kept_hosts}
-use Rattle.world_model.specs.World.{recorded_all, commits_by, commits, fallen, cut_line, settled, committed, crashed, armed, started, birth_of, with_birth, is_born, moved, moved_all, sent, shown, entry_of, shown_all, entries_of, given, after_step, added, block_of, stepped, addressee_of, arrival, too_old, refused_by, arrives, delivers_it, delivers, line}
+use Rattle.world_model.specs.World.{held_line, held_or_dropped, loads_by, loads_it, loads, hears as hears_held, hands_it, hands, recorded_all, commits_by, commits, fallen, cut_line, settled, committed, crashed, armed, started, birth_of, with_birth, is_born, moved, moved_all, sent, shown, entry_of, shown_all, entries_of, given, after_step, added, block_of, stepped, addressee_of, arrival, too_old, refused_by, arrives, delivers_it, delivers, line}
 use Rattle.world_model.specs.Run.{goes_on, run_from, down_text, tunnel_text, call_text, call_table, tunnel_line, node_table, end_table, lns_tunnel, partner_of, agree, session_count, agree_text, agree_with, agree_line, node_agreements, agreement_table, tables}
 use Rattle.hex.specs.Hex.{encode_with}
 use Rattle.std.specs.Fmt.{digits}
@@ -62,7 +62,7 @@ unfolding takes_id at put_at without u16_bytes u32_bytes is_control has_length h
     agreement_table tables encode_with digits sent_in handed_in farewell holder_of subscriber_of
     packet_of options_at is_good part asked request_heard ack_heard nak_heard reject_heard answer_heard answers_last heard_as
     counting_from holder records_of contents_of gone_with all_gone all_cleared starts kept_hosts recorded_all commits_by commits fallen cut_line settled committed
-    crashed armed started down_text
+    crashed armed started down_text held_line held_or_dropped loads_by loads_it loads hears_held hands_it hands
     packet_sent requesting link_asks counted zeroed configured terminated signalled acted link_stepped acked naks_after link_refuses link_confirms
     code_rejected echoed answered link_opened after_heard after_read after_packet
 computing = tt

@@ -4,11 +4,12 @@ use Rattle.l2tp_header.specs.Spelling.{control_bytes}
 use Rattle.avp_codec.specs.Spelling.{spelling}
 use Rattle.control_message.specs.declared.message.Message.{Message}
 use Rattle.control_message.specs.Pairs.{pairs_of}
-use Rattle.world_model.specs.Texts.{Entry, Frames, Sends, HandsUp, Ends, Drops, Causes, Stopped}
+use Rattle.world_model.specs.Texts.{Entry, Frames, Sends, HandsUp, Holds, Ends, Drops, Causes, Stopped}
 
 abbrev pub line_in : Entry → ℕ
 line_in (Sends line packet from to bytes) = line
 line_in (HandsUp line node session birth side frame) = line
+line_in (Holds line node number) = line
 line_in (Ends line node session padt) = line
 line_in (Frames line node bytes) = line
 line_in (Drops line node why) = line

@@ -3,6 +3,7 @@ pub mod Samples
 pub mod Entries
 pub mod Crossing
 pub mod Endings
+pub mod Held
 pub mod Messages
 pub mod Outlived
 pub mod Owed

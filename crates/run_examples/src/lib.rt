@@ -6,6 +6,7 @@
 
 ghost use Rattle.run_examples.specs.Crossing.{FramesCross};
 ghost use Rattle.run_examples.specs.Endings.{CallsEndOnce};
+ghost use Rattle.run_examples.specs.Held.{FramesAreHeld};
 ghost use Rattle.run_examples.specs.Leaving.{StepsLeaveRecords};
 ghost use Rattle.run_examples.specs.Messages.{MessagesAreTakenInOrder, MessagesAreAcknowledged, WindowsAreKept, OpeningsComeOnce};
 ghost use Rattle.run_examples.specs.Outlived.{OldPacketsAreRefused};
@@ -28,6 +29,11 @@ pub fn steps_leave_records()
 /// An end that takes no calls refuses one that it is asked for, by a CDN that names none of its own.
 pub fn calls_are_refused()
     ensures { CallsAreRefused }
+{}
+
+/// A frame that is held as its call is hung up comes up in that call.
+pub fn frames_are_held()
+    ensures { FramesAreHeld }
 {}
 
 /// A call that is dropped at one end while it is hung up at the other is gone once at each.

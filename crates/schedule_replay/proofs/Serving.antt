@@ -21,7 +21,7 @@ use Rattle.world_model.specs.declared.refusal.Refusal.{Refusal}
 use Rattle.world_model.specs.Texts.{Entry, Drops, entry_text, entries_text}
 use Rattle.end_names.specs.Names.{address_of}
 use Rattle.world_model.specs.declared.packet.Packet.{Packet}
-use Rattle.world_model.specs.World.{World, Node, Sender, sender_of, arrival, refused_by, arrives, delivers_it, delivers, Lined, Committed, IsFull, IsCut, IsWhole, with_node, declared, lac_at, down_at, later, moved_all, shown, shown_all, entry_of, entries_of, given, after_step, commits, fallen, cut_line, settled, committed, stepped, block_of, retold, answer_entries, replies, enters, comes, comes_by, framed, opened, started}
+use Rattle.world_model.specs.World.{World, Node, Sender, sender_of, arrival, refused_by, arrives, delivers_it, delivers, Lined, Committed, IsFull, IsCut, IsWhole, with_node, declared, lac_at, down_at, later, moved_all, shown, shown_all, entry_of, entries_of, given, after_step, commits, fallen, without_held, cut_line, settled, committed, stepped, block_of, retold, answer_entries, replies, enters, comes, comes_by, framed, opened, started}
 use Rattle.schedule_replay.specs.Counting.{ups_with, ups_after}
 use Rattle.schedule_replay.specs.declared.fault.LineFault.{LineFault}
 use Rattle.schedule_replay.specs.declared.fault.LineFault.TheVariants.{Refused, NoMemory as OutOfMemory}
@@ -33,7 +33,7 @@ use Rattle.schedule_replay.specs.Kinds.{site_in}
 use Rattle.schedule_replay.specs.Serving.{SiteStep, by_served, step_with, site_step, site_start, end_step, site_commits, MakesStep, frames_unfit, start_unfit, reply_entries, moved_to, whole_line, served_by, served_line, served_at, start_served, IsPlain, ShowsMade}
 
 -- two lines with one world and one list of entries lead to the same
-same_leads : (l k : Lined) (old new : Told) → l.world ≡ k.world → l.entries ≡ k.entries → LeadsTo l old new → LeadsTo k old new
+pub same_leads : (l k : Lined) (old new : Told) → l.world ≡ k.world → l.entries ≡ k.entries → LeadsTo l old new → LeadsTo k old new
 same_leads l k old new worlds entries h = record {
   world = h.world ∙ worlds;
   report = h.report ∙ ap (λ es. old.report ++ entries_text es) entries;
@@ -75,12 +75,12 @@ module _ (w : World) (line n : ℕ) (x : Node) where
       subst (λ (u : Stepped). SameLine (served_by w line n x v (site_commits x v)) (settled w line n x None u (commits x.checkpoint (contents_of x.end u)))) is
       (plain_by v access reply (site_commits x v))
 
-  abbrev stepped_so : (ev : Event) (o : Option Access) → Type 0
+  abbrev pub stepped_so : (ev : Event) (o : Option Access) → Type 0
   stepped_so ev o =
       SameLine (served_line w line n x (step_with (site_in x) o x.clock (block_of n line) ev))
       (committed w line n x None (step x.end x.clock (block_of n line) ev))
 
-  by_access : (ev : Event) → IsPlain ev → (o : Option Access) → x.access ≡ o → stepped_so ev o
+  pub by_access : (ev : Event) → IsPlain ev → (o : Option Access) → x.access ≡ o → stepped_so ev o
   unfolding serves
   by_access ev plain None is = plain_same _ _ refl (sym is) refl
   by_access (Frame bytes) plain (Some a) is = absurd plain
@@ -162,7 +162,7 @@ made_says (Ok t) (Ok g) line n x y v old mid new m world report ups h =
     })
 made_says (Ok t) (Err unmade.Cut) line n x y v old mid new m world report ups h =
     subst (λ (c : Committed). Says (Ok t) (served_by old.world line n x v c) old new) (sym m.1)
-    (record { world = h.0 ∙ world ∙ rw m.2 refl; report = h.1 ∙ rw report refl; ups = h.2 ∙ ups })
+    (record { world = h.0 ∙ ap (λ (w : World). without_held w n) world ∙ rw m.2 refl; report = h.1 ∙ rw report refl; ups = h.2 ∙ ups })
 made_says (Ok t) (Err (unmade.Full records)) line n x y v old mid new m world report ups h = absurd h
 made_says (Ok t) (Err unmade.NoMemory) line n x y v old mid new m world report ups h = absurd h
 made_says (Err (Refused e)) (Ok g) line n x y v old mid new m world report ups h = absurd h

@@ -1,6 +1,6 @@
 -- What is counted over a run: the frames that its ends hand up, and the tunnels that agree at its end.
 use Rattle.std.specs.Prelude.{ℕ, ◌+◌, ◌-◌, ◌^◌, min, count_by, ◌==◌, List, [], ◌∷◌}
-use Rattle.world_model.specs.Texts.{Entry, Sends, HandsUp, Ends, Frames, Drops, Causes, Stopped}
+use Rattle.world_model.specs.Texts.{Entry, Sends, HandsUp, Holds, Ends, Frames, Drops, Causes, Stopped}
 use Rattle.world_model.specs.World.{World}
 use Rattle.world_model.specs.Run.{Run, agreement_table}
 
@@ -8,6 +8,7 @@ use Rattle.world_model.specs.Run.{Run, agreement_table}
 abbrev pub ups_with : ℕ → Entry → ℕ
 ups_with n (HandsUp line node session birth side frame) = min (n + 1) (2 ^ 64 - 1)
 ups_with n (Sends line packet from to bytes) = n
+ups_with n (Holds line node number) = n
 ups_with n (Ends line node session padt) = n
 ups_with n (Frames line node bytes) = n
 ups_with n (Drops line node why) = n

@@ -1,5 +1,7 @@
 -- What a step of a node's end gives, of either kind, and the line that it makes.
 use Rattle.std.specs.Prelude.{◌≡◌, ℕ, List, [], ◌∷◌, ◌++◌, true, false, if◌then◌else◌, Option, Some, None, is_some, Result, Ok, Err}
+use Rattle.wire_base.specs.declared.letter.Side.{Side}
+use Rattle.wire_base.specs.declared.letter.Side.TheVariants as side
 use Rattle.wire_base.specs.declared.why.Why.{Why}
 use Rattle.wire_base.specs.declared.why.Why.TheVariants as why
 use Rattle.end_model.specs.Calls.{is_lac}
@@ -9,6 +11,7 @@ use Rattle.end_model.specs.declared.moves.Move.{Move}
 use Rattle.end_model.specs.declared.out.Out.{Out}
 use Rattle.end_model.specs.Access.{Access, Served, serves}
 use Rattle.end_names.specs.declared.role.Role.{Role}
+use Rattle.end_names.specs.declared.role.Role.TheVariants.{Lac}
 use Rattle.session_book.specs.Books.{Kept}
 use Rattle.end_model.specs.declared.tunnel.Config.{Config}
 use Rattle.end_model.specs.Contents.{contents_of}
@@ -19,14 +22,17 @@ use Rattle.step_ledger.specs.declared.ledger.StepFault.TheVariants as fault
 use Rattle.world_checkpoint.specs.declared.commits.CommitStop.{CommitStop}
 use Rattle.world_checkpoint.specs.declared.commits.CommitStop.TheVariants as stop
 use Rattle.end_model.specs.Starting.{starts, access_over}
-use Rattle.world_model.specs.Texts.{Entry, Frames, Stopped, entries_text}
+use Rattle.world_model.specs.Texts.{Entry, Frames, Stopped, entry_text, entries_text}
 use Rattle.schedule_replay.specs.declared.fault.LineFault.{LineFault}
 use Rattle.schedule_replay.specs.declared.fault.LineFault.TheVariants.{Refused, NoMemory as OutOfMemory}
-use Rattle.schedule_replay.specs.Counting.{ups_after}
+use Rattle.schedule_replay.specs.Counting.{ups_with, ups_after}
 use Rattle.schedule_replay.specs.Fault.{Told}
 use Rattle.world_model.specs.declared.refusal.Refusal.{Refusal}
-use Rattle.world_model.specs.declared.refusal.Refusal.TheVariants.{StoreFull}
-use Rattle.world_model.specs.World.{World, Node, Checkpoint, Lined, Committed, IsFull, IsCut, IsWhole, quiet_line, with_node, moved_all, shown_all, entries_of, block_of, commits, fallen, cut_line}
+use Rattle.world_model.specs.declared.refusal.Refusal.TheVariants.{StoreFull, Unfit}
+use Rattle.world_model.specs.declared.held.Held.{Held}
+use Rattle.world_model.specs.World.{World, Node, Checkpoint, Lined, Committed, IsFull, IsCut, IsWhole, quiet_line, with_node, moved_all, shown_all, entries_of, block_of, commits, fallen, without_held, cut_line, held_line, dropped_line, hand_entry, behind_up}
+use Rattle.schedule_replay.specs.declared.held.Loaded.{Loaded}
+use Rattle.schedule_replay.specs.declared.held.Loaded.TheVariants as loaded
 use Rattle.schedule_replay.specs.declared.kinds.Moved.{Moved}
 use Rattle.schedule_replay.specs.declared.node.Unmade.{Unmade}
 use Rattle.schedule_replay.specs.declared.node.Unmade.TheVariants as unmade
@@ -193,7 +199,7 @@ ShowsMade (Ok x) (Ok g) line n old new =
     × (new.report ≡ old.report ++ entries_text (entries_of line n g.outputs v ++ reply_entries line n g.reply))
     × (new.ups ≡ ups_after old.ups (entries_of line n g.outputs v ++ reply_entries line n g.reply))
 ShowsMade (Ok x) (Err unmade.Cut) line n old new =
-    (new.world ≡ old.world) × (new.report ≡ old.report ++ entries_text (Stopped line n ∷ [])) × (new.ups ≡ old.ups)
+    (new.world ≡ without_held old.world n) × (new.report ≡ old.report ++ entries_text (Stopped line n ∷ [])) × (new.ups ≡ old.ups)
 ShowsMade (Ok x) (Err (unmade.Full records)) line n old new = ⊥
 ShowsMade (Ok x) (Err unmade.NoMemory) line n old new = ⊥
 ShowsMade (Err (Refused refusal)) (Err (unmade.Full records)) line n old new = (refusal ≡ StoreFull records) × (new ≡ old)
@@ -201,3 +207,34 @@ ShowsMade (Err (Refused refusal)) (Err unmade.Cut) line n old new = ⊥
 ShowsMade (Err (Refused refusal)) (Err unmade.NoMemory) line n old new = ⊥
 ShowsMade (Err (Refused refusal)) (Ok g) line n old new = ⊥
 ShowsMade (Err OutOfMemory) made line n old new = Unit {0}
+
+-- ---- frames that are held
+
+-- the line of what came of a load
+abbrev pub loaded_line : World → ℕ → ℕ → Loaded → Result Lined Refusal
+loaded_line w line n (loaded.Passes f) = Ok (held_line w line n f)
+loaded_line w line n (loaded.Dropped x) = Ok (dropped_line w line n x)
+loaded_line w line n loaded.Control = Err (Unfit why.Packet)
+
+-- a frame is told before what came of a node's step on it, where the step was made
+abbrev pub told_first : {T E : Type 0} → Result T E → ℕ → ℕ → Held → Told → Told
+told_first (Ok g) line n f old = record old { report = old.report ++ entry_text (hand_entry line n f); ups = ups_with old.ups (hand_entry line n f) }
+told_first (Err e) line n f old = old
+
+abbrev pub ShowsBehind : {T : Type 0} → Result T LineFault → Result Moved Unmade → ℕ → ℕ → Held → Told → Told → Type 0
+ShowsBehind r made line n f old new = ShowsMade r made line n (told_first made line n f old) new
+
+-- the line of a frame of LCP that a node hears
+unfoldable pub heard_at : World → ℕ → ℕ → Held → Option Node → Result Lined Refusal
+heard_at w line n f None = Ok (quiet_line w)
+heard_at w line n f (Some x) =
+    behind_up line n x.end.role f (served_line w line n x (site_step (site_in x) x.clock (block_of n line) (Lcp f.session f.frame)))
+
+-- the line of a frame that was held
+abbrev pub passes_to : World → ℕ → ℕ → Held → Side → Option Node → Result Lined Refusal
+passes_to w line n f side.Sub o = behind_up line n Lac f (Ok (quiet_line w))
+passes_to w line n f side.Net o = behind_up line n Lac f (Ok (quiet_line w))
+passes_to w line n f side.Lcp o = heard_at w line n f o
+
+abbrev pub passes : World → ℕ → ℕ → Held → Option Node → Result Lined Refusal
+passes w line n f o = passes_to w line n f f.side o

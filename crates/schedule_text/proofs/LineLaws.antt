@@ -13,9 +13,9 @@ use Rattle.hex.specs.Hex.{decode_of, encode_lower, encode_with, lower_digits, Is
 use Rattle.hex.specs.declared.error.FromHexError.{FromHexError}
 use Rattle.hex.proofs.HexLemmas.{decode_of-encode_lower, decode_of-ok}
 use Rattle.schedule_text.specs.declared.line.Line.{Line}
-use Rattle.schedule_text.specs.declared.line.Line.TheVariants.{Remark, Lac, Lns, OpenUp, Close, Ring, FromSub, Down, Hang, DropCall, Frame, Deliver, Tick, Crash, Stop, Start}
-use Rattle.schedule_text.specs.Grammar.{call_text, line_text, IsPrintable, IsNode, IsPort, IsSession, IsTunnel, IsFrame, IsEthernet, IsPacket, IsMilliseconds, IsSecret, HasSecret, IsCommit, IsDeviceCall, secret_text, mode_text, kept_text, FitsLine}
-use Rattle.schedule_text.specs.Reading.{◌>>=◌, cut, node_of, port_of, session_of, packet_of, milliseconds_of, bytes_from, bytes_of, frame_of, ethernet_of, secret_of, mode_of, mode_words_of, lac_by, lac_of, lns_of, open_of, ring_of, call_of, from_sub_of, down_of, node_session_of, hang_of, drop_of, close_of, frame_line_of, deliver_of, tick_of, crash_of, start_of, commit_of, device_call_of, kept_of, stop_words_of, stop_by, stop_of, fall_of, plain_of, words_of, is_printable, remark_of, line_of}
+use Rattle.schedule_text.specs.declared.line.Line.TheVariants.{Remark, Lac, Lns, OpenUp, Close, Ring, FromSub, Down, Hang, DropCall, Frame, Deliver, Load, Hand, Tick, Crash, Stop, Start}
+use Rattle.schedule_text.specs.Grammar.{call_text, line_text, IsPrintable, IsNode, IsPort, IsSession, IsTunnel, IsFrame, IsEthernet, IsPacket, IsHeld, IsMilliseconds, IsSecret, HasSecret, IsCommit, IsDeviceCall, secret_text, mode_text, kept_text, FitsLine}
+use Rattle.schedule_text.specs.Reading.{◌>>=◌, cut, node_of, port_of, session_of, packet_of, held_of, milliseconds_of, bytes_from, bytes_of, frame_of, ethernet_of, secret_of, mode_of, mode_words_of, lac_by, lac_of, lns_of, open_of, ring_of, call_of, from_sub_of, down_of, node_session_of, hang_of, drop_of, close_of, frame_line_of, deliver_of, load_of, hand_of, carry_of, tick_of, crash_of, start_of, commit_of, device_call_of, kept_of, stop_words_of, stop_by, stop_of, fall_of, plain_of, words_of, is_printable, remark_of, line_of}
 use Rattle.schedule_text.proofs.Numbers.{own, number_found, number_again}
 
 -- ---- parts
@@ -82,6 +82,9 @@ session_found n word e = let f = number_found 1 65535 n word (omega arith) e in 
 
 packet_found : (n : ℕ) (word : List ℕ) → packet_of word ≡ Some n → (word ≡ decimal n) × IsPacket n
 packet_found n word e = let f = number_found 1 4294967295 n word (omega arith) e in (f.0, (f.1, f.2))
+
+held_found : (n : ℕ) (word : List ℕ) → held_of word ≡ Some n → (word ≡ decimal n) × IsHeld n
+held_found n word e = let f = number_found 1 4294967295 n word (omega arith) e in (f.0, (f.1, f.2))
 
 milliseconds_found : (n : ℕ) (word : List ℕ) → milliseconds_of word ≡ Some n → (word ≡ decimal n) × IsMilliseconds n
 milliseconds_found n word e = let f = number_found 0 86400000 n word (omega arith) e in (f.0, f.2)
@@ -373,6 +376,32 @@ tick_found words l e =
     let spelled : IsSpelled (Tick node milliseconds) (codes "tick " ++ words) = ((n.1, m.1), rw tail (simp append_assoc)) in
     subst (λ x. IsSpelled x (codes "tick " ++ words)) (same_Some (Tick node milliseconds) l hm) spelled)))
 
+-- ---- frames that are carried in two steps, as they were read
+
+load_found : (words : List ℕ) (l : Line) → load_of words ≡ Some l → IsSpelled l (codes "load " ++ words)
+unfolding load_of
+load_found words l e =
+    bound (cut 32 words) _ l e (λ a ea ha.
+    bound (node_of a.0) _ l ha (λ node en hn.
+    bound (packet_of a.1) _ l hn (λ packet ep hp.
+    let n = node_found node a.0 en in
+    let p = packet_found packet a.1 ep in
+    let tail : words ≡ decimal node ++ 32 ∷ decimal packet = cut_words words a.0 a.1 node ea n.0 ∙ ap (λ t. decimal node ++ 32 ∷ t) p.0 in
+    let spelled : IsSpelled (Load node packet) (codes "load " ++ words) = ((n.1, p.1), rw tail (simp append_assoc)) in
+    subst (λ x. IsSpelled x (codes "load " ++ words)) (same_Some (Load node packet) l hp) spelled)))
+
+hand_found : (words : List ℕ) (l : Line) → hand_of words ≡ Some l → IsSpelled l (codes "hand " ++ words)
+unfolding hand_of
+hand_found words l e =
+    bound (cut 32 words) _ l e (λ a ea ha.
+    bound (node_of a.0) _ l ha (λ node en hn.
+    bound (held_of a.1) _ l hn (λ number ep hp.
+    let n = node_found node a.0 en in
+    let p = held_found number a.1 ep in
+    let tail : words ≡ decimal node ++ 32 ∷ decimal number = cut_words words a.0 a.1 node ea n.0 ∙ ap (λ t. decimal node ++ 32 ∷ t) p.0 in
+    let spelled : IsSpelled (Hand node number) (codes "hand " ++ words) = ((n.1, p.1), rw tail (simp append_assoc)) in
+    subst (λ x. IsSpelled x (codes "hand " ++ words)) (same_Some (Hand node number) l hp) spelled)))
+
 -- ---- crashes, stops and starts that were read
 
 crash_found : (words : List ℕ) (l : Line) → crash_of words ≡ Some l → IsSpelled l (codes "crash " ++ words)
@@ -473,6 +502,17 @@ stop_found words l e =
 kind_spelled : (kind name words : List ℕ) (l : Line) → bytes_eq kind name ≡ true → IsSpelled l (name ++ 32 ∷ words) → IsSpelled l (kind ++ 32 ∷ words)
 kind_spelled kind name words l e h = subst (λ k. IsSpelled l (k ++ 32 ∷ words)) (sym (same_text kind name e)) h
 
+carry_found : (kind words : List ℕ) (l : Line) → carry_of kind words ≡ Some l → IsSpelled l (kind ++ 32 ∷ words)
+unfolding carry_of
+carry_found kind words l e =
+    elim (either (bytes_eq kind (codes "load")) (load_of words) _ l e) [
+      | inl a ↦ kind_spelled kind (codes "load") words l a.0 (load_found words l a.1)
+      | inr e1 ↦ elim (either (bytes_eq kind (codes "hand")) (hand_of words) _ l e1) [
+        | inl a ↦ kind_spelled kind (codes "hand") words l a.0 (hand_found words l a.1)
+        | inr e2 ↦ absurd (none-some l e2)
+      ]
+    ]
+
 fall_found : (kind words : List ℕ) (l : Line) → fall_of kind words ≡ Some l → IsSpelled l (kind ++ 32 ∷ words)
 unfolding fall_of
 fall_found kind words l e =
@@ -482,7 +522,7 @@ fall_found kind words l e =
         | inl a ↦ kind_spelled kind (codes "stop") words l a.0 (stop_found words l a.1)
         | inr e2 ↦ elim (either (bytes_eq kind (codes "start")) (start_of words) _ l e2) [
           | inl a ↦ kind_spelled kind (codes "start") words l a.0 (start_found words l a.1)
-          | inr e3 ↦ absurd (none-some l e3)
+          | inr e3 ↦ carry_found kind words l e3
         ]
       ]
     ]
@@ -701,6 +741,14 @@ stop_again : (node commit call : ℕ) (kept : Bool) → IsNode node → IsCommit
 unfolding stop_of
 stop_again node commit call kept n m c = rw (stop_words_again node commit call kept n m c, stop_by_again node commit call kept c) refl
 
+load_again : (node packet : ℕ) → IsNode node → IsPacket packet → load_of (decimal node ++ 32 ∷ decimal packet) ≡ Some (Load node packet)
+unfolding load_of
+load_again node packet n p = rw (node_cut node (decimal packet) n, node_again node n, number_again 1 4294967295 packet (omega arith) p.0 p.1) refl
+
+hand_again : (node number : ℕ) → IsNode node → IsHeld number → hand_of (decimal node ++ 32 ∷ decimal number) ≡ Some (Hand node number)
+unfolding hand_of
+hand_again node number n p = rw (node_cut node (decimal number) n, node_again node n, number_again 1 4294967295 number (omega arith) p.0 p.1) refl
+
 tick_again : (node milliseconds : ℕ) → IsNode node → IsMilliseconds milliseconds → tick_of (decimal node ++ 32 ∷ decimal milliseconds) ≡ Some (Tick node milliseconds)
 unfolding tick_of
 tick_again node milliseconds n m = rw (node_cut node (decimal milliseconds) n, node_again node n, number_again 0 86400000 milliseconds (omega arith) (omega arith) m) refl
@@ -734,7 +782,7 @@ printable_again (c ∷ cs) h = and_from _ _ (and_from _ _ (le-leb 32 c h.0.0) (l
 
 -- what is spelled is read
 pub line_again : (l : Line) → FitsLine l → line_of (line_text l) ≡ Some l
-unfolding line_of words_of plain_of fall_of remark_of open_of deliver_of crash_of start_of
+unfolding line_of words_of plain_of fall_of carry_of remark_of open_of deliver_of crash_of start_of
 line_again (Remark text) h = rw (printable_again text h) refl
 line_again (Lac node lns secret hide) h = ap lac_of (regroup_lac node lns (secret_text secret) (mode_text hide)) ∙ lac_again node lns secret hide h
 line_again (Lns node secret) h = ap lns_of (regroup_lns node (secret_text secret)) ∙ lns_again node secret h.0 h.1
@@ -755,6 +803,12 @@ line_again (Close node tunnel) h =
     ap close_of regrouped ∙ close_again node tunnel h.0 h.1
 line_again (Frame node bytes) h = ap frame_line_of (regroup_frame_line node bytes) ∙ frame_line_again node bytes h.0 h.1
 line_again (Deliver packet) h = rw (number_again 1 4294967295 packet (omega arith) h.0 h.1) refl
+line_again (Load node packet) h =
+    let regrouped : decimal node ++ codes " " ++ decimal packet ≡ decimal node ++ 32 ∷ decimal packet = simp append_assoc in
+    ap load_of regrouped ∙ load_again node packet h.0 h.1
+line_again (Hand node number) h =
+    let regrouped : decimal node ++ codes " " ++ decimal number ≡ decimal node ++ 32 ∷ decimal number = simp append_assoc in
+    ap hand_of regrouped ∙ hand_again node number h.0 h.1
 line_again (Tick node milliseconds) h =
     let regrouped : decimal node ++ codes " " ++ decimal milliseconds ≡ decimal node ++ 32 ∷ decimal milliseconds = simp append_assoc in
     ap tick_of regrouped ∙ tick_again node milliseconds h.0 h.1

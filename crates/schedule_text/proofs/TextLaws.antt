@@ -7,7 +7,7 @@ use Rattle.std.proofs.lemmas.Bool.{cases_Bool, eqb-true, ne_eqb}
 use Rattle.std.proofs.lemmas.List.{append-nil, length-append}
 use Rattle.hex.specs.Hex.{encode_lower, lower_digits}
 use Rattle.schedule_text.specs.declared.line.Line.{Line}
-use Rattle.schedule_text.specs.declared.line.Line.TheVariants.{Remark, Lac, Lns, OpenUp, Close, Ring, FromSub, Down, Hang, DropCall, Frame, Deliver, Tick, Crash, Stop, Start}
+use Rattle.schedule_text.specs.declared.line.Line.TheVariants.{Remark, Lac, Lns, OpenUp, Close, Ring, FromSub, Down, Hang, DropCall, Frame, Deliver, Load, Hand, Tick, Crash, Stop, Start}
 use Rattle.schedule_text.specs.Grammar.{call_text, secret_text, mode_text, kept_text, line_text, IsPrintable, IsNode, IsSession, FitsLine, AreLines, spelling, IsText}
 use Rattle.schedule_text.specs.Reading.{put_first, text_lines}
 use Rattle.schedule_text.proofs.LineLaws.{Lacks, number_lacks, hex_lacks, digits_lack_feed, secret_lacks}
@@ -137,6 +137,12 @@ lacks_feed (Frame node bytes) h =
     let front = lacks_append 10 (decimal node) (codes " ") (node_lacks node h.0) (refl, tt) in
     (refl, (refl, (refl, (refl, (refl, (refl, lacks_append 10 _ (encode_lower bytes) front (hex_lacks 10 lower_digits bytes refl digits_lack_feed)))))))
 lacks_feed (Deliver packet) h = (refl, (refl, (refl, (refl, (refl, (refl, (refl, (refl, number_lacks 10 packet (omega arith) (omega arith)))))))))
+lacks_feed (Load node packet) h =
+    let front = lacks_append 10 (decimal node) (codes " ") (node_lacks node h.0) (refl, tt) in
+    (refl, (refl, (refl, (refl, (refl, lacks_append 10 _ (decimal packet) front (number_lacks 10 packet (omega arith) (omega arith)))))))
+lacks_feed (Hand node number) h =
+    let front = lacks_append 10 (decimal node) (codes " ") (node_lacks node h.0) (refl, tt) in
+    (refl, (refl, (refl, (refl, (refl, lacks_append 10 _ (decimal number) front (number_lacks 10 number (omega arith) (omega arith)))))))
 lacks_feed (Tick node milliseconds) h =
     let front = lacks_append 10 (decimal node) (codes " ") (node_lacks node h.0) (refl, tt) in
     (refl, (refl, (refl, (refl, (refl, lacks_append 10 _ (decimal milliseconds) front (number_lacks 10 milliseconds (omega arith) (omega arith)))))))
@@ -163,6 +169,8 @@ some_byte (DropCall node session) = omega arith
 some_byte (Close node tunnel) = omega arith
 some_byte (Frame node bytes) = omega arith
 some_byte (Deliver packet) = omega arith
+some_byte (Load node packet) = omega arith
+some_byte (Hand node number) = omega arith
 some_byte (Tick node milliseconds) = omega arith
 some_byte (Crash node) = omega arith
 some_byte (Stop node commit call kept) = omega arith

@@ -4,7 +4,7 @@ use Rattle.std.specs.List.{flat_map, AllByRecursion}
 use Rattle.std.specs.Fmt.{decimal}
 use Rattle.hex.specs.Hex.{encode_lower, IsBytes}
 use Rattle.schedule_text.specs.declared.line.Line.{Line}
-use Rattle.schedule_text.specs.declared.line.Line.TheVariants.{Remark, Lac, Lns, OpenUp, Close, Ring, FromSub, Down, Hang, DropCall, Frame, Deliver, Tick, Crash, Stop, Start}
+use Rattle.schedule_text.specs.declared.line.Line.TheVariants.{Remark, Lac, Lns, OpenUp, Close, Ring, FromSub, Down, Hang, DropCall, Frame, Deliver, Load, Hand, Tick, Crash, Stop, Start}
 use Rattle.schedule_text.specs.declared.error.ScheduleError.{ScheduleError}
 use Rattle.schedule_text.specs.declared.error.ScheduleError.TheVariants.{BadLine, NoMemory}
 
@@ -40,6 +40,8 @@ line_text (Hang node session) = codes "hang " ++ decimal node ++ codes " " ++ de
 line_text (DropCall node session) = codes "drop " ++ decimal node ++ codes " " ++ decimal session
 line_text (Frame node bytes) = codes "frame " ++ decimal node ++ codes " " ++ encode_lower bytes
 line_text (Deliver packet) = codes "deliver " ++ decimal packet
+line_text (Load node packet) = codes "load " ++ decimal node ++ codes " " ++ decimal packet
+line_text (Hand node number) = codes "hand " ++ decimal node ++ codes " " ++ decimal number
 line_text (Tick node milliseconds) = codes "tick " ++ decimal node ++ codes " " ++ decimal milliseconds
 line_text (Crash node) = codes "crash " ++ decimal node
 line_text (Stop node commit call kept) =
@@ -81,6 +83,10 @@ IsEthernet bytes = (1 ≤ length bytes) × (length bytes ≤ 2048) × IsBytes by
 abbrev pub IsPacket : ℕ → Type 0
 IsPacket n = (1 ≤ n) × (n ≤ 4294967295)
 
+-- a frame that a node holds
+abbrev pub IsHeld : ℕ → Type 0
+IsHeld n = (1 ≤ n) × (n ≤ 4294967295)
+
 -- how far a clock goes on at once, in milliseconds: a day at most
 abbrev pub IsMilliseconds : ℕ → Type 0
 IsMilliseconds n = n ≤ 86400000
@@ -107,6 +113,8 @@ FitsLine (Hang node session) = IsNode node × IsSession session
 FitsLine (DropCall node session) = IsNode node × IsSession session
 FitsLine (Frame node bytes) = IsNode node × IsEthernet bytes
 FitsLine (Deliver packet) = IsPacket packet
+FitsLine (Load node packet) = IsNode node × IsPacket packet
+FitsLine (Hand node number) = IsNode node × IsHeld number
 FitsLine (Tick node milliseconds) = IsNode node × IsMilliseconds milliseconds
 FitsLine (Crash node) = IsNode node
 FitsLine (Stop node commit call kept) = IsNode node × IsCommit commit × IsDeviceCall kept call

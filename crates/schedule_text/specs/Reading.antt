@@ -6,7 +6,7 @@ use Rattle.std.specs.Str.Parse.{digits_value}
 use Rattle.hex.specs.Hex.{decode_of, encode_lower}
 use Rattle.hex.specs.declared.error.FromHexError.{FromHexError}
 use Rattle.schedule_text.specs.declared.line.Line.{Line}
-use Rattle.schedule_text.specs.declared.line.Line.TheVariants.{Remark, Lac, Lns, OpenUp, Close, Ring, FromSub, Down, Hang, DropCall, Frame, Deliver, Tick, Crash, Stop, Start}
+use Rattle.schedule_text.specs.declared.line.Line.TheVariants.{Remark, Lac, Lns, OpenUp, Close, Ring, FromSub, Down, Hang, DropCall, Frame, Deliver, Load, Hand, Tick, Crash, Stop, Start}
 use Rattle.schedule_text.specs.declared.error.ScheduleError.{ScheduleError}
 use Rattle.schedule_text.specs.declared.error.ScheduleError.TheVariants.{BadLine, NoMemory}
 
@@ -64,6 +64,9 @@ session_of word = number_of 1 65535 word
 
 abbrev pub packet_of : List ℕ → Option ℕ
 packet_of word = number_of 1 4294967295 word
+
+abbrev pub held_of : List ℕ → Option ℕ
+held_of word = number_of 1 4294967295 word
 
 abbrev pub milliseconds_of : List ℕ → Option ℕ
 milliseconds_of word = number_of 0 86400000 word
@@ -185,13 +188,28 @@ stop_by node commit call kept = if kept && not (nat_le 3 call) then None else So
 unfoldable pub stop_of : List ℕ → Option Line
 stop_of words = stop_words_of words >>= λ said. stop_by said.0 said.1 said.2 said.3
 
+unfoldable pub load_of : List ℕ → Option Line
+load_of words =
+    cut 32 words >>= λ first. node_of first.0 >>= λ node. packet_of first.1 >>= λ packet. Some (Load node packet)
+
+unfoldable pub hand_of : List ℕ → Option Line
+hand_of words =
+    cut 32 words >>= λ first. node_of first.0 >>= λ node. held_of first.1 >>= λ number. Some (Hand node number)
+
+-- the line of a kind that carries a frame in two steps
+unfoldable pub carry_of : List ℕ → List ℕ → Option Line
+carry_of kind words =
+    if bytes_eq kind (codes "load") then load_of words
+    else if bytes_eq kind (codes "hand") then hand_of words
+    else None
+
 -- the line of a kind that crashes a node, or starts it again
 unfoldable pub fall_of : List ℕ → List ℕ → Option Line
 fall_of kind words =
     if bytes_eq kind (codes "crash") then crash_of words
     else if bytes_eq kind (codes "stop") then stop_of words
     else if bytes_eq kind (codes "start") then start_of words
-    else None
+    else carry_of kind words
 
 -- the line of a kind that holds no bytes
 unfoldable pub plain_of : List ℕ → List ℕ → Option Line

@@ -70,6 +70,16 @@ pub enum Line {
     Deliver {
         packet: u32,
     },
+    /// Whoever carries data beside a node's end looks at what is known of the session of a packet for it, and holds its frame.
+    Load {
+        node: u8,
+        packet: u32,
+    },
+    /// A frame that is held at a node is handed up, by its number, from 1 to 4,294,967,295.
+    Hand {
+        node: u8,
+        number: u32,
+    },
     /// A node's clock goes on by so many milliseconds, from 0 to 86,400,000, and then ticks.
     Tick {
         node: u8,

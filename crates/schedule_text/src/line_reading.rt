@@ -4,7 +4,7 @@ ghost use Rattle.std.specs.Prelude.{◌≡◌, MatchOption, IfOk, Ok, Some, None
 ghost use Rattle.std.specs.List.{list_all};
 ghost use Rattle.std.specs.Str.{bytes_eq};
 ghost use Rattle.hex.specs.Hex.{encode_lower};
-ghost use Rattle.schedule_text.specs.Reading.{mode_of, mode_words_of, lac_by, lac_of, lns_of, open_of, ring_of, call_of, from_sub_of, down_of, node_session_of, hang_of, drop_of, close_of, frame_line_of, deliver_of, tick_of, crash_of, start_of, commit_of, device_call_of, kept_of, stop_words_of, stop_by, stop_of, fall_of, plain_of, words_of, is_printable, line_of, node_of, port_of, session_of, packet_of, bytes_from, bytes_of, frame_of, ethernet_of, secret_of};
+ghost use Rattle.schedule_text.specs.Reading.{mode_of, mode_words_of, lac_by, lac_of, lns_of, open_of, ring_of, call_of, from_sub_of, down_of, node_session_of, hang_of, drop_of, close_of, frame_line_of, deliver_of, tick_of, load_of, hand_of, carry_of, crash_of, start_of, commit_of, device_call_of, kept_of, stop_words_of, stop_by, stop_of, fall_of, plain_of, words_of, is_printable, line_of, node_of, port_of, session_of, packet_of, held_of, bytes_from, bytes_of, frame_of, ethernet_of, secret_of};
 
 use crate::line::Line;
 use crate::parts::{read_number, split_once};
@@ -302,8 +302,52 @@ fn read_frame_line(alloc: Global, words: &[u8]) -> Result<Option<Line>, NoMemory
 fn read_deliver(words: &[u8]) -> Option<Line>
     ensures { result ≡ deliver_of words.now }
 {
-    let packet = read_number(words, 1, u32::MAX)?;
+    let packet = read_u32(words)?;
     Some(Line::Deliver { packet })
+}
+
+/// The number of a packet, or of a frame that is held.
+fn read_u32(word: &[u8]) -> Option<u32>
+    ensures packet { result ≡ packet_of word.now }
+    ensures held { result ≡ held_of word.now }
+{
+    read_number(word, 1, u32::MAX)
+}
+
+/// `N P`, behind `load `.
+#[tactic(auto, unfolding(crate::specs::Reading::load_of))]
+fn read_load(words: &[u8]) -> Option<Line>
+    ensures { result ≡ load_of words.now }
+{
+    let (node, packet) = split_once(words, b' ')?;
+    let node = read_node(node)?;
+    let packet = read_u32(packet)?;
+    Some(Line::Load { node, packet })
+}
+
+/// `N H`, behind `hand `.
+#[tactic(auto, unfolding(crate::specs::Reading::hand_of))]
+fn read_hand(words: &[u8]) -> Option<Line>
+    ensures { result ≡ hand_of words.now }
+{
+    let (node, number) = split_once(words, b' ')?;
+    let node = read_node(node)?;
+    let number = read_u32(number)?;
+    Some(Line::Hand { node, number })
+}
+
+/// The line of a kind that carries a frame in two steps.
+#[tactic(auto, unfolding(crate::specs::Reading::carry_of))]
+fn read_carry(kind: &[u8], words: &[u8]) -> Option<Line>
+    ensures { result ≡ carry_of kind.now words.now }
+{
+    if kind == b"load".as_slice() {
+        read_load(words)
+    } else if kind == b"hand".as_slice() {
+        read_hand(words)
+    } else {
+        None
+    }
 }
 
 /// `N MS`, behind `tick `.
@@ -415,7 +459,7 @@ fn read_fall(kind: &[u8], words: &[u8]) -> Option<Line>
     } else if kind == b"start".as_slice() {
         read_start(words)
     } else {
-        None
+        read_carry(kind, words)
     }
 }
 

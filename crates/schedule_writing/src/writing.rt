@@ -175,6 +175,12 @@ fn push_line(out: &mut Bytes, line: &Line) -> Result<(), NoMemory>
         }
         Line::Frame { node, bytes } => push_frame(out, *node, bytes.as_slice()),
         Line::Deliver { packet } => push_number(out, b"deliver ", u64::from(*packet)),
+        Line::Load { node, packet } => {
+            push_numbers(out, b"load ", u64::from(*node), u64::from(*packet))
+        }
+        Line::Hand { node, number } => {
+            push_numbers(out, b"hand ", u64::from(*node), u64::from(*number))
+        }
         Line::Tick { node, milliseconds } => {
             push_numbers(out, b"tick ", u64::from(*node), u64::from(*milliseconds))
         }

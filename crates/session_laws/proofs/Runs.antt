@@ -9,23 +9,27 @@ use Rattle.schedule_text.specs.declared.line.Line.{Line}
 use Rattle.schedule_text.specs.Grammar.{AreLines}
 use Rattle.end_model.specs.declared.event.Event.{Event}
 use Rattle.end_model.specs.declared.moves.Move.{Move}
+use Rattle.end_model.specs.declared.moves.Move.TheVariants as move
+use Rattle.end_model.specs.declared.moves.Replied.{Replied}
+use Rattle.frame_laws.proofs.Facts.{all_push}
 use Rattle.world_model.specs.declared.refusal.Refusal.{Refusal}
 use Rattle.end_names.specs.declared.role.Role.{Role}
 use Rattle.end_names.specs.declared.role.Role.TheVariants.{Lac, Lns}
 use Rattle.end_model.specs.End.{End, new_end, plain_step}
-use Rattle.world_model.specs.World.{World, Node, Sender, Deed, Lined, birth_in, birth_of, moved, moved_all, config_of, line, new_node}
+use Rattle.world_model.specs.World.{World, Node, Sender, Deed, Lined, birth_in, birth_of, moved, moved_all, config_of, hand_deed, line, new_node}
 use Rattle.world_model.specs.Run.{Run, empty_run, after_line, goes_on, run_from}
 use Rattle.step_laws.specs.Calm.{AreCalm}
 use Rattle.epoch_machine.specs.Worlds as machine
 use Rattle.epoch_machine.specs.Moves as moves
 use Rattle.connection_laws.specs.Accounts.{Account, no_account, account_of, account_from}
 use Rattle.connection_laws.specs.Facts.{Accounts, EndOk, NodeOk, Holds}
-use Rattle.connection_laws.specs.Steps.{after, MovesKeep, MovesWithin, BirthsStay, LineSteps, LineDoes, Nothing, ANode, AStep, HoldsAt, LinesGoOn}
+use Rattle.connection_laws.specs.Steps.{after, MovesKeep, MovesWithin, BirthsStay, LineSteps, LineDoes, Nothing, ANode, AStep, LineHands, ByItself, BehindHand, HoldsAt, LinesGoOn}
 use Rattle.connection_laws.proofs.Steps.{afterwards}
 use Rattle.connection_laws.proofs.Runs.{accounts_more}
+use Rattle.connection_laws.proofs.Lines.{behind_accounts}
 use Rattle.session_laws.specs.Names.{name}
 use Rattle.session_laws.specs.Roles.{FitsEnd, IsOfEnd}
-use Rattle.session_laws.specs.Joined.{Ends, tunnel_in, TunnelJoined, NodeJoined, CallsJoined, AreJoined, mate_of, MateJoined, BirthsJoined, RepliesJoined, ends_of}
+use Rattle.session_laws.specs.Joined.{Ends, tunnel_in, TunnelJoined, NodeJoined, CallsJoined, AreJoined, mate_of, MateJoined, BirthsJoined, ReplyJoined, RepliesJoined, ends_of}
 use Rattle.session_laws.proofs.Keeps.{with_end, MovesFollow}
 use Rattle.session_laws.proofs.WorldBirths.{births_on, replies_on, births_told, births_ended}
 
@@ -290,6 +294,22 @@ module _ (keep : MovesKeep) (follow : MovesFollow) where
         count = (let count = c.count in let after = told.count in omega arith);
       }
 
+  -- a frame that is handed up before that is no reply
+  line_hands : (w : World) (accs : Accounts) → Holds w accs → (number : ℕ) (x : Lined) (mw : machine.World) → AreJoined accs (ends_of w.nodes) mw
+      → BirthsJoined w (ends_of w.nodes) mw → w.born + 65536 < 2 ^ 64 - 1 → (ds : List Deed) → RepliesJoined mw ds → LineHands w accs number x
+      → LineJoins accs w ds x
+  line_hands w accs holds number x mw joined births room ds replies (ByItself d) = line_follows w accs holds number x mw joined births room ds replies d
+  line_hands w accs holds number x mw joined births room ds replies (BehindHand y n r f is d) =
+      let one = hand_deed number n r f in
+      let more : RepliesJoined mw (ds ++ one ∷ []) =
+      all_push (λ (q : Deed). (m : Replied) → q.move ≡ move.Replied m → ReplyJoined mw q.node m) ds one replies (λ m e. absurd (cc)) in
+      let j = line_follows w accs holds number y mw joined births room (ds ++ one ∷ []) more d in
+      subst (LineJoins accs w ds) (sym is) (record {
+        joins = subst (λ qs. Joins (afterwards accs (one ∷ y.done)) (ends_of y.world.nodes) y.world qs) (append_assoc ds (one ∷ []) y.done)
+            (subst (λ (a : Accounts). Joins a (ends_of y.world.nodes) y.world ((ds ++ one ∷ []) ++ y.done)) (sym (behind_accounts accs number n r f y.done)) j.joins);
+        count = j.count;
+      })
+
   -- ---- runs
 
   -- a run goes on where a line fits, and stays where it doesn't
@@ -316,7 +336,7 @@ module _ (keep : MovesKeep) (follow : MovesFollow) where
         })
         (λ x is.
         let k = lines_go_on most number r holds (omega (arith, room)) l fits.0 calm.0 x is in
-        let f = line_follows r.world (account_of r.done) holds.holds number x follows.world follows.joined follows.births (omega (arith, few)) r.done follows.replies k.does in
+        let f = line_hands r.world (account_of r.done) holds.holds number x follows.world follows.joined follows.births (omega (arith, few)) r.done follows.replies k.does in
         let count = f.count in
         ended_from (number + 1) ls (after_line r x) (most + 16384) fits.1 calm.1 k.after
         (subst (λ (accs : Accounts). Joins accs (ends_of x.world.nodes) x.world (r.done ++ x.done)) (accounts_more r.done x.done) f.joins) (omega (arith, room))

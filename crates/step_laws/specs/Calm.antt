@@ -9,7 +9,7 @@ use Rattle.wire_base.specs.declared.why.Why.TheVariants as why
 use Rattle.session_book.specs.declared.record.Record.{Record}
 use Rattle.session_book.specs.Books.{fits, stepped as with_record}
 use Rattle.schedule_text.specs.declared.line.Line.{Line}
-use Rattle.schedule_text.specs.declared.line.Line.TheVariants.{Remark, Lac, Lns, OpenUp, Close, Ring, Frame, FromSub, Down, Hang, DropCall, Deliver, Tick, Crash, Stop, Start}
+use Rattle.schedule_text.specs.declared.line.Line.TheVariants.{Remark, Lac, Lns, OpenUp, Close, Ring, Frame, FromSub, Down, Hang, DropCall, Deliver, Load, Hand, Tick, Crash, Stop, Start}
 use Rattle.end_names.specs.Names.{address_of, node_of}
 use Rattle.end_names.specs.declared.role.Role.{Role}
 use Rattle.end_names.specs.declared.role.Role.TheVariants as role
@@ -22,9 +22,11 @@ use Rattle.end_model.specs.declared.out.Out.TheVariants.{Send, Up, Gone, Drop, C
 use Rattle.end_model.specs.Contents.{contents_of}
 use Rattle.end_model.specs.End.{Stepped, step}
 use Rattle.world_model.specs.declared.refusal.Refusal.TheVariants.{Unfit}
+use Rattle.world_model.specs.declared.packet.Packet.{Packet}
 use Rattle.world_model.specs.declared.stop.StopAt.{StopAt}
-use Rattle.world_model.specs.World.{World, Node, Checkpoint, Sender, Lined, Committed, IsFull, IsCut, IsWhole, quiet_line, with_node, with_birth_at, with_birth, birth_of, is_born, moved, moved_all, sent, shown, shown_all, given, after_step, recorded, recorded_all, is_full, commits_by, commits, declared, lac_at, lns_at, with_call, with_tunnel, later, new_node, added, block_of, stepped, sender_of, line}
-use Rattle.step_laws.specs.Lines.{tested_not, is_lac_at, is_lns_at, is_declared, has_call, has_tunnel, IsAt, is_at, at_moment, is_later, WasWhole, step_line, deliver_line}
+use Rattle.world_model.specs.declared.held.Held.{Held}
+use Rattle.world_model.specs.World.{World, Node, Checkpoint, Sender, Lined, Committed, IsFull, IsCut, IsWhole, quiet_line, with_node, with_birth_at, with_birth, birth_of, is_born, moved, moved_all, sent, shown, shown_all, given, after_step, recorded, recorded_all, is_full, commits_by, commits, declared, lac_at, lns_at, with_call, with_tunnel, later, new_node, added, block_of, stepped, sender_of, held_line, taken_up, line}
+use Rattle.step_laws.specs.Lines.{tested_not, is_lac_at, is_lns_at, is_declared, has_call, has_tunnel, IsAt, is_at, at_moment, is_later, WasWhole, step_line, deliver_line, OfLoad, load_line, OfHand, hand_line}
 use Rattle.step_laws.specs.Hosts.{LacAt, with_host, entering, OfFrame, frame_line}
 
 -- a line that crashes no node, arms no stop, and starts none again
@@ -44,6 +46,8 @@ IsCalm (Down n session frame) = Unit {0}
 IsCalm (Hang n session) = Unit {0}
 IsCalm (DropCall n session) = Unit {0}
 IsCalm (Deliver p) = Unit {0}
+IsCalm (Load n p) = Unit {0}
+IsCalm (Hand n h) = Unit {0}
 IsCalm (Tick n milliseconds) = Unit {0}
 
 abbrev pub AreCalm : List Line → Type 0
@@ -231,39 +235,59 @@ module _ (w : World) (number : ℕ) (calm : WorldIsCalm w) where
       one n l ev node is x h =
           stepped_calm x n ev None (Ok node) (λ q e. (let same : node ≡ q = cc in subst NodeIsCalm same (at_calm w n node calm is))) h
 
+  of_load : (n : ℕ) (o : Option Packet) → OfLoad LineIsCalm w number n o
+  unfolding held_line
+  of_load n o = record {
+    dropped = λ word other. record { world = calm; whole = refl };
+    held = λ f is. record { world = calm; whole = refl };
+  }
+
+module _ (w : World) (number : ℕ) (calm : WorldIsCalm w) where
   -- a calm line leads from a calm world to a calm one, and its step isn't cut off
   pub calm_line : (x : Lined) (l : Line) → IsCalm l → line w number l ≡ Ok x → LineIsCalm x
   unfolding line
   calm_line x (Remark text) is h = let e : quiet_line w ≡ x = cc in subst LineIsCalm e (record { world = calm; whole = refl })
-  calm_line x (Lac n m secret hide) is h = added_calm n role.Lac (address_of m) secret hide x h
-  calm_line x (Lns n secret) is h = added_calm n role.Lns 0 secret false x h
+  calm_line x (Lac n m secret hide) is h = added_calm w number calm n role.Lac (address_of m) secret hide x h
+  calm_line x (Lns n secret) is h = added_calm w number calm n role.Lns 0 secret false x h
   calm_line x (OpenUp n) is h =
-      stepped_calm x n event.OpenTunnel None (lac_at (at w.nodes n)) (λ node e. calm n node (is_lac_at (at w.nodes n) node e).0) h
+      stepped_calm w number calm x n event.OpenTunnel None (lac_at (at w.nodes n)) (λ node e. calm n node (is_lac_at (at w.nodes n) node e).0) h
   calm_line x (Close n i) is h =
-      stepped_calm x n (event.CloseTunnel i) None (with_tunnel i (declared (at w.nodes n)))
+      stepped_calm w number calm x n (event.CloseTunnel i) None (with_tunnel i (declared (at w.nodes n)))
       (λ node e. calm n node (is_declared (at w.nodes n) node (has_tunnel i (declared (at w.nodes n)) node e))) h
   calm_line x (Ring n port) is h =
-      stepped_calm x n (event.Ring port) None (lac_at (at w.nodes n)) (λ node e. calm n node (is_lac_at (at w.nodes n) node e).0) h
-  calm_line x (Frame n bytes) is h = frame_line LineIsCalm w number n bytes (of_frame n bytes) x h
+      stepped_calm w number calm x n (event.Ring port) None (lac_at (at w.nodes n)) (λ node e. calm n node (is_lac_at (at w.nodes n) node e).0) h
+  calm_line x (Frame n bytes) is h = frame_line LineIsCalm w number n bytes (of_frame w number calm n bytes) x h
   calm_line x (FromSub n session frame) is h =
-      stepped_calm x n (event.Payload session frame) None (with_call session (lac_at (at w.nodes n)))
+      stepped_calm w number calm x n (event.Payload session frame) None (with_call session (lac_at (at w.nodes n)))
       (λ node e. calm n node (is_lac_at (at w.nodes n) node (has_call session (lac_at (at w.nodes n)) node e)).0) h
   calm_line x (Down n session frame) is h =
-      stepped_calm x n (event.Lower session frame) None (with_call session (lns_at (at w.nodes n)))
+      stepped_calm w number calm x n (event.Lower session frame) None (with_call session (lns_at (at w.nodes n)))
       (λ node e. calm n node (is_lns_at (at w.nodes n) node (has_call session (lns_at (at w.nodes n)) node e)).0) h
   calm_line x (Hang n session) is h =
-      stepped_calm x n (event.Hang session) None (with_call session (lac_at (at w.nodes n)))
+      stepped_calm w number calm x n (event.Hang session) None (with_call session (lac_at (at w.nodes n)))
       (λ node e. calm n node (is_lac_at (at w.nodes n) node (has_call session (lac_at (at w.nodes n)) node e)).0) h
   calm_line x (DropCall n session) is h =
-      stepped_calm x n (event.DropCall session) None (with_call session (declared (at w.nodes n)))
+      stepped_calm w number calm x n (event.DropCall session) None (with_call session (declared (at w.nodes n)))
       (λ node e. calm n node (is_declared (at w.nodes n) node (has_call session (declared (at w.nodes n)) node e))) h
   calm_line x (Deliver p) is h = deliver_line (LineIsCalm x) w number x (line w number (Deliver p)) (slice_get w.packets (p - 1))
       (λ q node found there up young so leads.
-      stepped_calm x q.to (event.Datagram (address_of q.from) q.bytes) (sender_of q.from q.origin) (Ok node)
+      stepped_calm w number calm x q.to (event.Datagram (address_of q.from) q.bytes) (sender_of q.from q.origin) (Ok node)
       (λ y e. (let same : node ≡ y = cc in subst NodeIsCalm same (calm q.to node there))) leads)
       refl h
+  calm_line x (Load n p) is h = load_line LineIsCalm w number n (slice_get w.packets (p - 1)) (of_load w number calm n (slice_get w.packets (p - 1))) x h
+  calm_line x (Hand n k) is h = hand_line LineIsCalm w number n k (record {
+    passed = λ f other. record { world = calm; whole = refl };
+    heard = λ f y side steps uncut. (let c = heard_calm n k f.node f.there f.frame y steps in record { world = c.world; whole = c.whole });
+    cut = λ f y side steps off. heard_calm n k f.node f.there f.frame y steps;
+  }) x h
+    where
+      heard_calm : (n k : ℕ) (node : Node) → at w.nodes n ≡ Some node → (f : Held) (y : Lined)
+          → stepped (taken_up w n k) number n (event.Lcp f.session f.frame) None (Ok node) ≡ Ok y → LineIsCalm y
+      heard_calm n k node there f y steps =
+          stepped_calm (taken_up w n k) number calm y n (event.Lcp f.session f.frame) None (Ok node)
+          (λ q e. (let same : node ≡ q = cc in subst NodeIsCalm same (calm n node there))) steps
   calm_line x (Tick n milliseconds) is h =
-      stepped_calm x n event.Tick None (later milliseconds (declared (at w.nodes n)))
+      stepped_calm w number calm x n event.Tick None (later milliseconds (declared (at w.nodes n)))
       (λ node e. at_calm w n node calm (at_moment w n node (is_later w n milliseconds node e))) h
   calm_line x (Crash n) is h = absurd is
   calm_line x (Stop n commit call kept) is h = absurd is

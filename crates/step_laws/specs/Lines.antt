@@ -1,22 +1,33 @@
 -- Which node a line is for, where it fits, and what comes to it.
-use Rattle.std.proofs.Common.{◌≡◌, Bool, true, false, cond, ℕ, ◌+◌, ◌-◌, ◌^◌, refl, sym, ap, ◌∙◌, subst, Option, Some, None, Result, Ok, Err}
-use Rattle.std.proofs.lemmas.Bool.{true≢false}
-use Rattle.std.specs.Prelude.{is_some, min, if◌then◌else◌}
+use Rattle.std.proofs.Common.{◌≡◌, Bool, true, false, cond, ℕ, List, ◌+◌, ◌-◌, ◌^◌, refl, sym, ap, ◌∙◌, subst, Option, Some, None, Result, Ok, Err}
+use Rattle.std.proofs.lemmas.Bool.{true≢false, eqb-true}
+use Rattle.std.specs.Prelude.{is_some, min, if◌then◌else◌, ◌==◌, not, ◌||◌, nat_lt, length}
 use Rattle.id_table.specs.Ids.{at}
+use Rattle.wire_base.specs.declared.letter.Side.{Side}
+use Rattle.wire_base.specs.declared.letter.Side.TheVariants as side
 use Rattle.wire_base.specs.declared.why.Why.{Why}
 use Rattle.wire_base.specs.declared.why.Why.TheVariants as why
+use Rattle.l2tp_header.specs.declared.header.Header.{Header}
+use Rattle.l2tp_header.specs.declared.header.HeaderError.{HeaderError}
+use Rattle.l2tp_header.specs.declared.header.HeaderError.TheVariants as header
+use Rattle.session_looks.specs.declared.look.Look.{Look}
+use Rattle.session_looks.specs.declared.look.Look.TheVariants as look
+use Rattle.l2tp_header.specs.Reading.{header_of}
+use Rattle.session_looks.specs.Frames.{Carried, Upward, Dropped, carry_known, carry_look, frame_of, side_of, is_for_lcp, header_why}
+use Rattle.end_model.specs.Reading.{body_of}
 use Rattle.end_names.specs.Names.{address_of}
 use Rattle.end_names.specs.declared.role.Role.{Role}
 use Rattle.end_names.specs.declared.role.Role.TheVariants as role
 use Rattle.end_model.specs.Calls.{is_lac}
 use Rattle.end_model.specs.declared.event.Event.{Event}
-use Rattle.end_model.specs.declared.event.Event.TheVariants.{Datagram}
+use Rattle.end_model.specs.declared.event.Event.TheVariants.{Datagram, Lcp}
 use Rattle.world_model.specs.declared.packet.Packet.{Packet}
 use Rattle.world_model.specs.declared.refusal.Refusal.{Refusal}
 use Rattle.world_model.specs.declared.refusal.Refusal.TheVariants.{Unfit}
 use Rattle.end_model.specs.Contents.{contents_of}
-use Rattle.end_model.specs.End.{Stepped, step, is_not_closed}
-use Rattle.world_model.specs.World.{World, Node, Checkpoint, Sender, Lined, Committed, IsFull, IsCut, IsWhole, running, declared, lac_at, lns_at, down_at, with_call, with_tunnel, later, after_step, commits, cut_line, settled, committed, block_of, stepped, addressee_of, arrival, refused_by, sender_of, arrives, delivers_it, delivers}
+use Rattle.end_model.specs.End.{Stepped, step, is_not_closed, look_in}
+use Rattle.world_model.specs.declared.held.Held.{Held}
+use Rattle.world_model.specs.World.{World, Node, Checkpoint, Sender, Lined, Committed, IsFull, IsCut, IsWhole, running, declared, lac_at, lns_at, down_at, with_call, with_tunnel, later, after_step, commits, cut_line, settled, committed, block_of, stepped, addressee_of, arrival, refused_by, sender_of, arrives, delivers_it, delivers, birth_of, quiet_line, held_at, held_line, dropped_line, held_or_dropped, loads_by, loads_it, loads, taken_up, behind_hand, behind_up, hears, hands_it, hands}
 
 -- ---- tests that end in an answer or a refusal
 
@@ -197,3 +208,171 @@ module _ (P : Type 0) (w : World) (number : ℕ) (x : Lined) (d : Result Lined R
               → d ≡ delivers_it w number (if b then Ok (p, node) else Err why.Down) → P
           up_or_down node there true up e = arrived p node (refused_by p node p.origin) (λ young so leads. on p node refl there up young so leads) e h
           up_or_down node there false up e = let none : Err (Unfit why.Down) ≡ Ok x = sym e ∙ h in absurd cc
+
+-- ---- data packets that are carried in two steps
+
+-- a node that is up
+declared_is : (o : Option Node) (node : Node) → declared o ≡ Ok node → (o ≡ Some node) × (node.up ≡ true)
+declared_is None node h = absurd (cc)
+declared_is (Some y) node h = let u = is_running y node h in (ap (λ z. Some z) u.0, u.1)
+
+-- the frame of a data packet for a node, which passes by what the node's end sees of its session
+pub record IsLoaded (w : World) (n : ℕ) (o : Option Packet) (f : Held) : Type 0 where
+  pub packet : Packet
+  pub found : o ≡ Some packet
+  pub to : packet.to ≡ n
+  pub node : Node
+  pub there : at w.nodes n ≡ Some node
+  pub up : node.up ≡ true
+  pub header : Header
+  pub read : header_of packet.bytes ≡ Ok header
+  pub plain : header.control ≡ false
+  pub carried : carry_look node.end.role (look_in (at node.end.calls header.session)) (address_of packet.from) header (frame_of (body_of header packet.bytes))
+      ≡ Upward f.tunnel f.peer f.side f.frame
+  pub session : f.session ≡ header.session
+  pub birth : f.birth ≡ birth_of w n header.session
+
+-- no frame is dropped for want of room
+header_other : (e : HeaderError) → header_why e ≡ why.Queue → ⊥
+header_other header.Short h = cc
+header_other (header.Version seen) h = cc
+header_other (header.ControlFlags word) h = cc
+header_other (header.Length said have) h = cc
+
+known_other : (role : Role) (up : Bool) (tunnel of peer from : ℕ) (frame : List ℕ) (word : Why) → carry_known role up tunnel of peer from frame ≡ Dropped word
+    → word ≡ why.Queue → ⊥
+unfolding carry_known
+known_other role up tunnel of peer from frame word h queue =
+    by (not (tunnel == of)) (not (peer == from)) (nat_lt (length frame) 2) (up || is_for_lcp role frame) h
+  where
+    by : (a b c d : Bool)
+        → (if a then Dropped why.Tunnel else if b then Dropped why.Peer else if c then Dropped why.Short
+        else if d then Upward tunnel peer (side_of role frame) frame else Dropped why.Closed) ≡ Dropped word → ⊥
+    by true b c d h = cc
+    by false true c d h = cc
+    by false false true d h = cc
+    by false false false true h = cc
+    by false false false false h = cc
+
+look_other : (role : Role) (l : Look) (from : ℕ) (h : Header) (frame : List ℕ) (word : Why) → carry_look role l from h frame ≡ Dropped word → word ≡ why.Queue → ⊥
+unfolding carry_look
+look_other role look.Unborn from h frame word is queue = cc
+look_other role look.Dead from h frame word is queue = cc
+look_other role (look.Bound tunnel peer) from h frame word is queue = known_other role false tunnel h.tunnel peer from frame word is queue
+look_other role (look.Established tunnel peer) from h frame word is queue = known_other role true tunnel h.tunnel peer from frame word is queue
+
+-- what is to be shown of a line that loads a packet
+pub record OfLoad (P : Lined → Type 0) (w : World) (number n : ℕ) (o : Option Packet) : Type 1 where
+  pub dropped : (word : Why) → (word ≡ why.Queue → ⊥) → P (dropped_line w number n word)
+  pub held : (f : Held) → IsLoaded w n o f → P (held_line w number n f)
+
+module _ (P : Lined → Type 0) (w : World) (number n : ℕ) (o : Option Packet) (of : OfLoad P w number n o) (x : Lined) where
+  module _ (node : Node) (there : at w.nodes n ≡ Some node) (up : node.up ≡ true) (p : Packet) (found : o ≡ Some p) (to : p.to ≡ n) where
+    by_carried : (h : Header) → header_of p.bytes ≡ Ok h → h.control ≡ false → (c : Carried)
+        → carry_look node.end.role (look_in (at node.end.calls h.session)) (address_of p.from) h (frame_of (body_of h p.bytes)) ≡ c
+        → P (held_or_dropped w number n h.session c)
+    unfolding held_or_dropped
+    by_carried h read plain (Upward tunnel peer side frame) is =
+        of.held (record { session = h.session; birth = birth_of w n h.session; tunnel = tunnel; peer = peer; side = side; frame = frame }) (record {
+          packet = p;
+          found = found;
+          to = to;
+          node = node;
+          there = there;
+          up = up;
+          header = h;
+          read = read;
+          plain = plain;
+          carried = is;
+          session = refl;
+          birth = refl;
+        })
+    by_carried h read plain (Dropped word) is = of.dropped word (look_other node.end.role _ (address_of p.from) h (frame_of (body_of h p.bytes)) word is)
+
+    by_header : (r : Result Header HeaderError) → header_of p.bytes ≡ r → loads_by w number n node.end (address_of p.from) p.bytes r ≡ Ok x → P x
+    unfolding loads_by
+    by_header (Err e) read h = let is : dropped_line w number n (header_why e) ≡ x = cc in subst P is (of.dropped (header_why e) (header_other e))
+    by_header (Ok k) read h =
+        let l = held_or_dropped w number n k.session (carry_look node.end.role (look_in (at node.end.calls k.session)) (address_of p.from) k (frame_of (body_of k p.bytes))) in
+        let t = tested_not k.control l (Unfit why.Packet) x h in
+        subst P t.1 (by_carried k read t.0 _ refl)
+
+  by_packet : (node : Node) → at w.nodes n ≡ Some node → node.up ≡ true → (q : Option Packet) → o ≡ q → loads_it w number n node q ≡ Ok x → P x
+  unfolding loads_it
+  by_packet node there up None found h = absurd (cc)
+  by_packet node there up (Some p) found h =
+      let t = then_tested (p.to == n) (loads_by w number n node.end (address_of p.from) p.bytes (header_of p.bytes)) (Unfit why.Packet) x h in
+      by_header node there up p found (eqb-true p.to n t.0) (header_of p.bytes) refl t.1
+
+  pub load_line : loads w number n o (declared (at w.nodes n)) ≡ Ok x → P x
+  unfolding loads
+  load_line h = by (declared (at w.nodes n)) refl h
+    where
+      by : (r : Result Node Why) → declared (at w.nodes n) ≡ r → loads w number n o r ≡ Ok x → P x
+      by (Err y) is h = absurd (cc)
+      by (Ok node) is h = let d = declared_is (at w.nodes n) node is in by_packet node d.0 d.1 o refl h
+
+-- a frame that is held at a node
+pub record IsHeldAt (w : World) (n number : ℕ) : Type 0 where
+  pub node : Node
+  pub there : at w.nodes n ≡ Some node
+  pub up : node.up ≡ true
+  pub frame : Held
+  pub held : at (held_at w n) number ≡ Some frame
+
+-- what is to be shown of a line that hands up a frame; the end makes a step only on one of LCP, and where a stop cuts that off, no frame is handed up
+pub record OfHand (P : Lined → Type 0) (w : World) (line n number : ℕ) : Type 1 where
+  pub passed : (k : IsHeldAt w n number) → (k.frame.side ≡ side.Lcp → ⊥) → P (behind_hand line n k.node.end.role k.frame (quiet_line (taken_up w n number)))
+  pub heard : (k : IsHeldAt w n number) (y : Lined) → k.frame.side ≡ side.Lcp → stepped (taken_up w n number) line n (Lcp k.frame.session k.frame.frame) None (Ok k.node) ≡ Ok y
+      → y.cut ≡ false → P (behind_hand line n k.node.end.role k.frame y)
+  pub cut : (k : IsHeldAt w n number) (y : Lined) → k.frame.side ≡ side.Lcp → stepped (taken_up w n number) line n (Lcp k.frame.session k.frame.frame) None (Ok k.node) ≡ Ok y
+      → y.cut ≡ true → P y
+
+module _ (P : Lined → Type 0) (w : World) (line n number : ℕ) (of : OfHand P w line n number) (x : Lined) where
+  module _ (k : IsHeldAt w n number) where
+    abbrev behind : Lined → Lined
+    behind y = behind_hand line n k.node.end.role k.frame y
+
+    abbrev leads : Lined → Result Lined Refusal
+    leads y = Ok y
+
+    by_cut : (y : Lined) → (y.cut ≡ false → P (behind y)) → (y.cut ≡ true → P y) → leads (if y.cut then y else behind y) ≡ leads x → P x
+    by_cut y whole off h = by y.cut refl h
+      where
+        by : (b : Bool) → y.cut ≡ b → leads (if b then y else behind y) ≡ leads x → P x
+        by true is h = let e : y ≡ x = cc in subst P e (off is)
+        by false is h = let e : behind y ≡ x = cc in subst P e (whole is)
+
+    by_step : (r : Result Lined Refusal) → ((y : Lined) → r ≡ Ok y → y.cut ≡ false → P (behind y)) → ((y : Lined) → r ≡ Ok y → y.cut ≡ true → P y)
+        → behind_up line n k.node.end.role k.frame r ≡ Ok x → P x
+    by_step (Err e) whole off h = absurd (cc)
+    by_step (Ok y) whole off h = by_cut y (whole y refl) (off y refl) h
+
+    by_side : (s : Side) → k.frame.side ≡ s → behind_up line n k.node.end.role k.frame (hears (taken_up w n number) line n k.node k.frame s) ≡ Ok x → P x
+    unfolding hears
+    by_side side.Sub is h = by_step (Ok (quiet_line (taken_up w n number))) (λ y e u. (let same : quiet_line (taken_up w n number) ≡ y = cc in subst (λ z. P (behind z)) same (of.passed k (λ lcp. let two = sym is ∙ lcp in cc))))
+        (λ y e c. (let same : quiet_line (taken_up w n number) ≡ y = cc in absurd (true≢false (sym c ∙ sym (ap (λ (z : Lined). z.cut) same))))) h
+    by_side side.Net is h = by_step (Ok (quiet_line (taken_up w n number))) (λ y e u. (let same : quiet_line (taken_up w n number) ≡ y = cc in subst (λ z. P (behind z)) same (of.passed k (λ lcp. let two = sym is ∙ lcp in cc))))
+        (λ y e c. (let same : quiet_line (taken_up w n number) ≡ y = cc in absurd (true≢false (sym c ∙ sym (ap (λ (z : Lined). z.cut) same))))) h
+    by_side side.Lcp is h = by_step (stepped (taken_up w n number) line n (Lcp k.frame.session k.frame.frame) None (Ok k.node))
+        (λ y e u. of.heard k y is e u) (λ y e c. of.cut k y is e c) h
+
+  by_held : (node : Node) → at w.nodes n ≡ Some node → node.up ≡ true → (o : Option Held) → at (held_at w n) number ≡ o → hands_it w line n number node o ≡ Ok x → P x
+  unfolding hands_it
+  by_held node there up None is h = absurd (cc)
+  by_held node there up (Some f) is h = by_side (record { node = node; there = there; up = up; frame = f; held = is }) f.side refl h
+
+  pub hand_line : hands w line n number (declared (at w.nodes n)) ≡ Ok x → P x
+  unfolding hands
+  hand_line h = by (declared (at w.nodes n)) refl h
+    where
+      by : (r : Result Node Why) → declared (at w.nodes n) ≡ r → hands w line n number r ≡ Ok x → P x
+      by (Err y) is h = absurd (cc)
+      by (Ok node) is h = let d = declared_is (at w.nodes n) node is in by_held node d.0 d.1 (at (held_at w n) number) refl h
+
+-- the line of a frame of LCP is this step, with the frame behind which it comes
+pub hand_steps : (w : World) (line n number : ℕ) (k : IsHeldAt w n number) → k.frame.side ≡ side.Lcp
+    → hands w line n number (declared (at w.nodes n))
+    ≡ behind_up line n k.node.end.role k.frame (stepped (taken_up w n number) line n (Lcp k.frame.session k.frame.frame) None (Ok k.node))
+unfolding hands hands_it hears
+hand_steps w line n number k is = rw (k.there, k.up, k.held, is) refl

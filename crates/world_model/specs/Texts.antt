@@ -38,6 +38,10 @@ unfoldable pub up_text : ℕ → ℕ → ℕ → ℕ → Side → List ℕ → L
 up_text line node session birth side frame =
     ended (decimal line & codes "up" & decimal node & decimal session & decimal birth & side_word side & encode_lower frame)
 
+-- a frame is held: line, node, and the frame's number
+unfoldable pub held_text : ℕ → ℕ → ℕ → List ℕ
+held_text line node number = ended (decimal line & codes "held" & decimal node & decimal number)
+
 -- a call ended: line, node, local session
 unfoldable pub gone_text : ℕ → ℕ → ℕ → List ℕ
 gone_text line node session = ended (decimal line & codes "gone" & decimal node & decimal session)
@@ -63,6 +67,8 @@ pub data Entry : Type 0 where
   Sends : (line packet from to : ℕ) (bytes : List ℕ) → Entry
   -- of a frame that a node hands up in a call, by its session and its birth
   HandsUp : (line node session birth : ℕ) (side : Side) (frame : List ℕ) → Entry
+  -- of a frame that is held at a node, by its number
+  Holds : (line node number : ℕ) → Entry
   -- of a call that ended, with the PADT to its host, where a host had it
   Ends : (line node session : ℕ) (padt : Option (List ℕ)) → Entry
   -- of an Ethernet frame that a LAC sends to a host
@@ -75,6 +81,7 @@ pub data Entry : Type 0 where
 abbrev pub entry_text : Entry → List ℕ
 entry_text (Sends line packet from to bytes) = send_text line packet from to bytes
 entry_text (HandsUp line node session birth side frame) = up_text line node session birth side frame
+entry_text (Holds line node number) = held_text line node number
 entry_text (Ends line node session padt) = gone_text line node session ++ farewell_text line node padt
 entry_text (Frames line node bytes) = frame_text line node bytes
 entry_text (Drops line node why) = drop_text line node why

@@ -1,11 +1,17 @@
 -- The world: nodes, and every packet that was ever sent.
-use Rattle.std.specs.Prelude.{ℕ, ◌+◌, ◌-◌, ◌^◌, min, List, [], ◌∷◌, ◌++◌, map, length, take, Bool, true, false, nat_lt, nat_le, if◌then◌else◌, slice_get, Option, Some, None, is_some, unwrap_or, Result, Ok, Err}
+use Rattle.std.specs.Prelude.{ℕ, ◌+◌, ◌-◌, ◌^◌, ◌==◌, min, List, [], ◌∷◌, ◌++◌, map, length, take, Bool, true, false, nat_lt, nat_le, if◌then◌else◌, slice_get, Option, Some, None, is_some, unwrap_or, Result, Ok, Err}
 use Rattle.byteorder.specs.Endian.{big_bytes}
-use Rattle.id_table.specs.Ids.{at, put}
+use Rattle.id_table.specs.Ids.{at, put, without}
+use Rattle.wire_base.specs.declared.letter.Side.{Side}
+use Rattle.wire_base.specs.declared.letter.Side.TheVariants as side
 use Rattle.wire_base.specs.declared.why.Why.{Why}
 use Rattle.wire_base.specs.declared.why.Why.TheVariants as why
+use Rattle.l2tp_header.specs.declared.header.Header.{Header}
+use Rattle.l2tp_header.specs.declared.header.HeaderError.{HeaderError}
+use Rattle.l2tp_header.specs.Reading.{header_of}
+use Rattle.session_looks.specs.Frames.{Carried, Upward, Dropped, carry_look, frame_of, header_why}
 use Rattle.schedule_text.specs.declared.line.Line.{Line}
-use Rattle.schedule_text.specs.declared.line.Line.TheVariants.{Remark, Lac, Lns, OpenUp, Close, Ring, Frame, FromSub, Down, Hang, DropCall, Deliver, Tick, Crash, Stop, Start}
+use Rattle.schedule_text.specs.declared.line.Line.TheVariants.{Remark, Lac, Lns, OpenUp, Close, Ring, Frame, FromSub, Down, Hang, DropCall, Deliver, Load, Hand, Tick, Crash, Stop, Start}
 use Rattle.session_book.specs.declared.record.Record.{Record}
 use Rattle.session_book.specs.Books.{Kept, nothing_kept, fits, stepped as with_record}
 use Rattle.end_model.specs.declared.tunnel.Config.{Config}
@@ -21,16 +27,18 @@ use Rattle.end_model.specs.declared.out.ControlOrigin.{ControlOrigin}
 use Rattle.end_model.specs.declared.out.Origin.TheVariants as origin
 use Rattle.end_model.specs.declared.moves.Move.{Move}
 use Rattle.end_model.specs.declared.moves.Move.TheVariants as move
+use Rattle.world_model.specs.declared.held.Held.{Held}
 use Rattle.world_model.specs.declared.packet.Packet.{Packet}
 use Rattle.world_model.specs.declared.stop.StopAt.{StopAt}
 use Rattle.world_model.specs.declared.refusal.Refusal.{Refusal}
 use Rattle.world_model.specs.declared.refusal.Refusal.TheVariants.{Unfit, HalfSpace, StoreFull}
 use Rattle.end_names.specs.Names.{address_of, node_of}
 use Rattle.end_model.specs.Calls.{is_lac}
-use Rattle.end_model.specs.End.{End, Stepped, reached, step, new_end, is_not_closed}
+use Rattle.end_model.specs.End.{End, Stepped, reached, step, new_end, is_not_closed, look_in}
 use Rattle.end_model.specs.Contents.{contents_of}
+use Rattle.end_model.specs.Reading.{body_of}
 use Rattle.end_model.specs.Starting.{bare_end, starts, access_over}
-use Rattle.world_model.specs.Texts.{Entry, Sends, HandsUp, Ends, Frames, Drops, Causes, Stopped}
+use Rattle.world_model.specs.Texts.{Entry, Sends, HandsUp, Holds, Ends, Frames, Drops, Causes, Stopped}
 use Rattle.end_model.specs.Access.{Access, access_with, Coming, Ignores, Answers, Runs, Enters, coming, pads_of, entered, farewell}
 use Rattle.wire_base.specs.declared.cause.Cause.{Cause as Because}
 use Rattle.pppoe_discovery.specs.declared.outcome.Discovered.{Discovered}
@@ -61,9 +69,13 @@ pub record World : Type 0 where
   pub packets : List Packet
   -- how many calls were born
   pub born : ℕ
+  -- the frames that are held, by node number and by their own numbers
+  pub held : List (ℕ × List (ℕ × Held))
+  -- how many frames were held so far, at all nodes
+  pub loads : ℕ
 
 abbrev pub empty_world : World
-empty_world = record { nodes = []; packets = []; born = 0 }
+empty_world = record { nodes = []; packets = []; born = 0; held = []; loads = 0 }
 
 -- the tunnel that sent what a step took, by its node and its local id
 pub record Sender : Type 0 where
@@ -253,9 +265,13 @@ fallen block node k = record node {
   checkpoint = with_stop None k;
 }
 
+-- no frame is held at a node any more
+abbrev pub without_held : World → ℕ → World
+without_held w n = record w { held = without w.held n }
+
 unfoldable pub cut_line : World → ℕ → ℕ → Node → Checkpoint → Lined
 cut_line w line n node k = record {
-  world = with_node w n (fallen (block_of n line) node k);
+  world = without_held (with_node w n (fallen (block_of n line) node k)) n;
   entries = Stopped line n ∷ [];
   done = [];
   cut = true;
@@ -412,6 +428,92 @@ delivers_it w line (Ok a) = arrives w line a.0 a.1 (refused_by a.0 a.1 a.0.origi
 unfoldable pub delivers : World → ℕ → Option Packet → Result Lined Refusal
 delivers w line p = delivers_it w line (arrival w p)
 
+-- ---- data packets that are carried in two steps
+
+-- the frames that are held at a node
+abbrev pub held_at : World → ℕ → List (ℕ × Held)
+held_at w n = unwrap_or (at w.held n) []
+
+-- one more frame is held, with the next number, up to the last one of 32 bits
+unfoldable pub held_line : World → ℕ → ℕ → Held → Lined
+held_line w line n f =
+    let number = min (w.loads + 1) (2 ^ 32 - 1) in
+    record {
+      world = record w { held = put w.held n (put (held_at w n) number f); loads = number };
+      entries = Holds line n number ∷ [];
+      done = [];
+      cut = false;
+    }
+
+-- a line in which an input is dropped, and nothing is done
+abbrev pub dropped_line : World → ℕ → ℕ → Why → Lined
+dropped_line w line n x = record (quiet_line w) { entries = Drops line n x ∷ [] }
+
+unfoldable pub held_or_dropped : World → ℕ → ℕ → ℕ → Carried → Lined
+held_or_dropped w line n session (Upward tunnel peer side frame) =
+    held_line w line n (record { session = session; birth = birth_of w n session; tunnel = tunnel; peer = peer; side = side; frame = frame })
+held_or_dropped w line n session (Dropped x) = dropped_line w line n x
+
+-- a data message from an address is judged as the end does that takes one, by what is seen of its session
+unfoldable pub loads_by : World → ℕ → ℕ → End → ℕ → List ℕ → Result Header HeaderError → Result Lined Refusal
+loads_by w line n e peer bytes (Err x) = Ok (dropped_line w line n (header_why x))
+loads_by w line n e peer bytes (Ok h) =
+    if h.control then Err (Unfit why.Packet)
+    else Ok (held_or_dropped w line n h.session (carry_look e.role (look_in (at e.calls h.session)) peer h (frame_of (body_of h bytes))))
+
+-- a packet for the node, which is no control message
+unfoldable pub loads_it : World → ℕ → ℕ → Node → Option Packet → Result Lined Refusal
+loads_it w line n node None = Err (Unfit why.Packet)
+loads_it w line n node (Some p) =
+    if p.to == n then loads_by w line n node.end (address_of p.from) p.bytes (header_of p.bytes) else Err (Unfit why.Packet)
+
+unfoldable pub loads : World → ℕ → ℕ → Option Packet → Result Node Why → Result Lined Refusal
+loads w line n p (Err x) = Err (Unfit x)
+loads w line n p (Ok node) = loads_it w line n node p
+
+-- the world without a frame that was held at a node
+abbrev pub taken_up : World → ℕ → ℕ → World
+taken_up w n number = record w { held = put w.held n (without (held_at w n) number) }
+
+-- a frame is handed up in the call for which it is held, whatever has become of that since
+abbrev pub hand_entry : ℕ → ℕ → Held → Entry
+hand_entry line n f = HandsUp line n f.session f.birth f.side f.frame
+
+abbrev pub hand_move : Held → Move
+hand_move f = move.FrameUp (record { tunnel = f.tunnel; peer = f.peer; session = f.session; side = f.side; frame = f.frame })
+
+abbrev pub hand_deed : ℕ → ℕ → Role → Held → Deed
+hand_deed line n r f = record {
+  line = line;
+  node = n;
+  role = r;
+  sender = None;
+  birth = f.birth;
+  move = hand_move f;
+}
+
+abbrev pub behind_hand : ℕ → ℕ → Role → Held → Lined → Lined
+behind_hand line n r f l = record l { entries = hand_entry line n f ∷ l.entries; done = hand_deed line n r f ∷ l.done }
+
+-- before all that a line does, unless its step was cut off
+abbrev pub behind_up : ℕ → ℕ → Role → Held → Result Lined Refusal → Result Lined Refusal
+behind_up line n r f (Err x) = Err x
+behind_up line n r f (Ok l) = Ok (if l.cut then l else behind_hand line n r f l)
+
+-- an LNS's end hears a frame of LCP, as an event of its own; with another frame it has nothing to do
+unfoldable pub hears : World → ℕ → ℕ → Node → Held → Side → Result Lined Refusal
+hears w line n node f side.Sub = Ok (quiet_line w)
+hears w line n node f side.Net = Ok (quiet_line w)
+hears w line n node f side.Lcp = stepped w line n (event.Lcp f.session f.frame) None (Ok node)
+
+unfoldable pub hands_it : World → ℕ → ℕ → ℕ → Node → Option Held → Result Lined Refusal
+hands_it w line n number node None = Err (Unfit why.Hand)
+hands_it w line n number node (Some f) = behind_up line n node.end.role f (hears (taken_up w n number) line n node f f.side)
+
+unfoldable pub hands : World → ℕ → ℕ → ℕ → Result Node Why → Result Lined Refusal
+hands w line n number (Err x) = Err (Unfit x)
+hands w line n number (Ok node) = hands_it w line n number node (at (held_at w n) number)
+
 -- the clock of a node goes on, up to the last number of 64 bits
 abbrev pub later : ℕ → Result Node Why → Result Node Why
 later milliseconds (Err x) = Err x
@@ -422,7 +524,7 @@ later milliseconds (Ok node) = Ok (record node { clock = min (node.clock + milli
 -- all but the checkpoint is lost
 unfoldable pub crashed : World → ℕ → ℕ → Result Node Why → Result Lined Refusal
 crashed w line n (Err x) = Err (Unfit x)
-crashed w line n (Ok node) = Ok (quiet_line (with_node w n (fallen (block_of n line) node node.checkpoint)))
+crashed w line n (Ok node) = Ok (quiet_line (without_held (with_node w n (fallen (block_of n line) node node.checkpoint)) n))
 
 -- a stop is armed, in place of the one before
 unfoldable pub armed : World → ℕ → StopAt → Result Node Why → Result Lined Refusal
@@ -451,6 +553,8 @@ line w number (Down n session frame) = stepped w number n (event.Lower session f
 line w number (Deliver p) = delivers w number (slice_get w.packets (p - 1))
 line w number (Hang n session) = stepped w number n (event.Hang session) None (with_call session (lac_at (at w.nodes n)))
 line w number (DropCall n session) = stepped w number n (event.DropCall session) None (with_call session (declared (at w.nodes n)))
+line w number (Load n p) = loads w number n (slice_get w.packets (p - 1)) (declared (at w.nodes n))
+line w number (Hand n h) = hands w number n h (declared (at w.nodes n))
 line w number (Tick n milliseconds) = stepped w number n event.Tick None (later milliseconds (declared (at w.nodes n)))
 line w number (Crash n) = crashed w number n (declared (at w.nodes n))
 line w number (Stop n commit call kept) = armed w n (record { commit = commit; kept = kept }) (declared (at w.nodes n))

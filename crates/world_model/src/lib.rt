@@ -5,10 +5,12 @@
 //! its report is the text of the entries, and of the tables at the end.
 #![tactic(auto)]
 
+mod held;
 mod packet;
 mod refusal;
 mod stop;
 
+pub use held::Held;
 pub use packet::Packet;
 pub use refusal::Refusal;
 pub use stop::StopAt;

@@ -12,7 +12,7 @@ returns-in-Some c =
 
 pub returns : goal.returns
 returns c =
-    let w : World = record { nodes = c.self.inside.nodes.entries; packets = c.self.inside.packets; born = c.self.inside.born } in
+    let w : World = record { nodes = c.self.inside.nodes.entries; packets = c.self.inside.packets; born = c.self.inside.born; held = c.self.inside.held.entries; loads = c.self.inside.loads } in
     let told : Told = record { world = w; report = c.self.inside.report; ups = c.self.inside.ups } in
     let n = c.args.node in
     let line = c.args.line in
