@@ -11,16 +11,17 @@ use Rattle.end_model.specs.declared.moves.Move.{Move}
 use Rattle.end_model.specs.declared.out.Out.{Out}
 use Rattle.end_model.specs.Access.{Access, Served, serves}
 use Rattle.end_names.specs.declared.role.Role.{Role}
-use Rattle.end_names.specs.declared.role.Role.TheVariants.{Lac}
+use Rattle.end_names.specs.declared.role.Role.TheVariants.{Lac, Lns}
 use Rattle.session_book.specs.Books.{Kept}
 use Rattle.end_model.specs.declared.tunnel.Config.{Config}
 use Rattle.end_model.specs.Contents.{contents_of}
-use Rattle.end_model.specs.End.{Stepped, step}
+use Rattle.end_model.specs.End.{End, Stepped, step}
 use Rattle.session_book.specs.declared.record.Record.{Record}
 use Rattle.step_ledger.specs.declared.ledger.StepFault.{StepFault}
 use Rattle.step_ledger.specs.declared.ledger.StepFault.TheVariants as fault
 use Rattle.world_checkpoint.specs.declared.commits.CommitStop.{CommitStop}
 use Rattle.world_checkpoint.specs.declared.commits.CommitStop.TheVariants as stop
+use Rattle.world_checkpoint.specs.Stores.{Filed, OpensTo}
 use Rattle.end_model.specs.Starting.{starts, access_over}
 use Rattle.world_model.specs.Texts.{Entry, Frames, Stopped, entry_text, entries_text}
 use Rattle.schedule_replay.specs.declared.fault.LineFault.{LineFault}
@@ -73,6 +74,20 @@ site_start r c key k = record {
 }
 
 -- ---- what a node commits
+
+-- the kind of end that a journal tells: 1 for a LAC, 2 for an LNS
+abbrev pub kind_of : Role → ℕ
+kind_of Lac = 1
+kind_of Lns = 2
+
+-- a checkpoint's file is that of this node
+pub record IsFileOf (e : End) (f : Filed) : Type 0 where
+  pub kind : f.kind ≡ kind_of e.role
+  pub number : f.number ≡ e.config.number
+
+-- opened as the journal of this node a file has the book of its checkpoint
+abbrev pub OpensAt : Node → List ℕ → Type 0
+OpensAt x file = OpensTo (kind_of x.end.role) x.end.config.number x.checkpoint.book file
 
 abbrev pub end_step : SiteStep → Stepped
 end_step v = record { end = v.site.end; outputs = v.outputs; moves = v.moves }

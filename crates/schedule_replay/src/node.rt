@@ -6,9 +6,8 @@ ghost use Rattle.end_model.specs.Calls.{is_lac};
 ghost use Rattle.end_model.specs.Access.{access_with};
 ghost use Rattle.end_model.specs.End.{new_end};
 ghost use Rattle.world_model.specs.World.{config_of, count_at, new_checkpoint, with_stop, fallen};
-ghost use Rattle.world_checkpoint.specs.Stores.{OpensTo};
 ghost use Rattle.schedule_replay.specs.Kinds.{site_in};
-ghost use Rattle.schedule_replay.specs.Serving.{site_step, site_start, IsLeft, IsAsBefore, MakesStep};
+ghost use Rattle.schedule_replay.specs.Serving.{kind_of, site_step, site_start, IsLeft, IsAsBefore, MakesStep, OpensAt};
 
 use crate::kinds::{Moved, NodeEnd};
 use end_model::{Config, Event, Role, address_of};
@@ -43,10 +42,13 @@ pub(crate) struct Node {
 
 impl Model for Node {
     ghost use Rattle.world_model.specs.World.{Node as Known};
+    ghost use Rattle.schedule_replay.specs.Serving.{IsFileOf};
 
     ghost Value = { Known };
 
-    ghost view = { λ n. record { end = n.end.end; up = n.up; clock = n.clock; births = n.births.entries; access = n.end.access; checkpoint = n.checkpoint } };
+    ghost view = { λ n. record { end = n.end.end; up = n.up; clock = n.clock; births = n.births.entries; access = n.end.access; checkpoint = n.checkpoint.known } };
+
+    ghost invariant = { λ n. IsFileOf n.end.end n.checkpoint };
 }
 
 /// A copy of a tunnel secret.
@@ -83,7 +85,9 @@ pub(crate) fn count_at(counts: &Table<u64>, id: u32) -> u64
 }
 
 /// The kind that the journal of an end tells.
-fn kind_of(role: Role) -> u8 {
+fn kind_of(role: Role) -> u8
+    ensures { result ≡ kind_of role }
+{
     match role {
         Role::Lac => 1,
         Role::Lns => 2,
@@ -187,7 +191,7 @@ impl Node {
 
     /// What the node's disk holds.
     pub(crate) fn file(&self) -> &[u8]
-        ensures { OpensTo self.now.checkpoint.book result.now }
+        ensures { OpensAt self.now result.now }
     {
         self.checkpoint.file()
     }

@@ -7,10 +7,9 @@ ghost use Rattle.end_names.specs.Names.{address_of};
 ghost use Rattle.world_model.specs.Texts.{send_text, entry_text, entries_text};
 ghost use Rattle.world_model.specs.World.{sent, birth_of, with_birth, is_born, moved, moved_all, shown, shown_all, entry_of, entries_of, declared, lac_at, lns_at, down_at, with_call, with_tunnel, later, added, block_of, stepped, arrival, refused_by, delivers, farewell_in, framed, held_at, held_line, loads_by, loads, taken_up, hand_entry, hands, crashed, armed, started, line as line_of};
 ghost use Rattle.world_model.specs.Run.{tables};
-ghost use Rattle.world_checkpoint.specs.Stores.{OpensTo};
 ghost use Rattle.schedule_replay.specs.Counting.{ups_with, ups_after, agreements_of};
 ghost use Rattle.schedule_replay.specs.Fault.{new_told, Leads, LeadsTo, Says};
-ghost use Rattle.schedule_replay.specs.Serving.{served_at, start_served, reply_entries, frames_unfit, start_unfit, IsPlain, ShowsMade, ShowsBehind, loaded_line, heard_at, passes};
+ghost use Rattle.schedule_replay.specs.Serving.{served_at, start_served, reply_entries, frames_unfit, start_unfit, IsPlain, ShowsMade, ShowsBehind, loaded_line, heard_at, passes, OpensAt};
 ghost use Rattle.schedule_replay.specs.Kinds.{of_role, fitting};
 
 use crate::fault::LineFault;
@@ -720,7 +719,7 @@ impl State {
     /// What the disk of a node holds, None where it isn't declared.
     pub(crate) fn file(&self, node: u8) -> Option<&[u8]>
         ensures declared { is_some result ≡ is_some (at self.now.world.nodes node) }
-        ensures opens { IfSome result (λ file. IfSome (at self.now.world.nodes node) (λ x. OpensTo x.checkpoint.book file.now)) }
+        ensures opens { IfSome result (λ file. IfSome (at self.now.world.nodes node) (λ x. OpensAt x file.now)) }
     {
         match self.nodes.get(u32::from(node)) {
             Some(at) => Some(at.file()),

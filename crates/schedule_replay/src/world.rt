@@ -3,7 +3,7 @@
 ghost use Rattle.std.specs.Prelude.{◌≡◌, length, is_some, IfOk, IfSome};
 ghost use Rattle.id_table.specs.Ids.{at};
 ghost use Rattle.world_model.specs.World.{line as line_of};
-ghost use Rattle.world_checkpoint.specs.Stores.{OpensTo};
+ghost use Rattle.schedule_replay.specs.Serving.{OpensAt};
 ghost use Rattle.schedule_replay.specs.Counting.{agreements_of};
 ghost use Rattle.schedule_replay.specs.Fault.{new_known, WorldSays, Finishes};
 
@@ -101,7 +101,7 @@ impl World {
     /// checkpoint.
     pub fn file(&self, node: u8) -> Option<&[u8]>
         ensures declared { is_some result ≡ is_some (at self.now.told.world.nodes node) }
-        ensures opens { IfSome result (λ file. IfSome (at self.now.told.world.nodes node) (λ x. OpensTo x.checkpoint.book file.now)) }
+        ensures opens { IfSome result (λ file. IfSome (at self.now.told.world.nodes node) (λ x. OpensAt x file.now)) }
     {
         self.state.file(node)
     }

@@ -10,8 +10,8 @@ use Rattle.checkpoint_journal.specs.Format.{opens}
 use Rattle.end_store.specs.Records.{kept_after_all, fitting, spelled}
 use Rattle.end_store.specs.Stored.{Stored, reads, IsKept, OpensWithFirst, FindsFirst}
 use Rattle.end_store.proofs.Found.{reads_book}
-use Rattle.world_model.specs.World.{new_checkpoint}
-use Rattle.world_checkpoint.specs.Stores.{seen, OpensTo, HasMore, HasFirst, LeavesFirst}
+use Rattle.checkpoint_journal.specs.State.{State, opened_at}
+use Rattle.world_checkpoint.specs.Stores.{filed, new_filed, OpensTo, HasMore, HasFirst, LeavesFirst}
 
 same_kept : (a b : Kept) (x : Result Kept ℕ) → x ≡ Ok a → x ≡ Ok b → a ≡ b
 same_kept a b x is so = let here : Ok a ≡ x = sym is in let both = here ∙ so in cc
@@ -89,19 +89,21 @@ copy_found s held kind number image (Err e) kept same_kind same_number is read r
 
 -- what a store opens with over a file without a byte
 pub opened_new : (kind number : ℕ) (bytes : List ℕ) (s : Stored) → bytes ≡ [] → reads kind number bytes ≡ Ok s.kept
-    → IfOk (opens kind number bytes) (λ cs. length cs ≡ s.journal.records) → seen None s ≡ new_checkpoint
+    → IfOk (opens kind number bytes) (λ cs. length cs ≡ s.journal.records) → s.journal ≡ opened_at kind number s.journal.start s.journal.records
+    → filed None s ≡ new_filed kind number
 unfolding opens
-opened_new kind number bytes s empty kept records =
+opened_new kind number bytes s empty kept records journal =
     let book : Ok nothing_kept ≡ Ok s.kept = subst (λ (l : List ℕ). reads kind number l ≡ Ok s.kept) empty kept in
     let same : nothing_kept ≡ s.kept = cc in
     let none : 0 ≡ s.journal.records = subst (λ (l : List ℕ). IfOk (opens kind number l) (λ cs. length cs ≡ s.journal.records)) empty records in
-    rw (sym same, sym none) refl
+    let of_kind : s.journal.kind ≡ kind = ap (λ (j : State). j.kind) journal in
+    let of_number : s.journal.number ≡ number = ap (λ (j : State). j.number) journal in
+    rw (sym same, sym none, of_kind, of_number) refl
 
 -- the file of a store that has its records on its disk
-pub opens_to : (s : Stored) (held : Held) (book : Kept) (file : List ℕ) → IsKept s (Some held) → file ≡ held.bytes → s.kept ≡ book → OpensTo book file
-opens_to s held book file (contents, stored) is same = (
-  s.journal.kind,
-  s.journal.number,
-  ap (reads s.journal.kind s.journal.number) is ∙ reads_book s.journal.kind s.journal.number held.bytes contents s.kept stored.journal.file.opened stored.book
-      ∙ ap (λ (k : Kept). Ok k) same,
-)
+pub opens_to : (s : Stored) (held : Held) (book : Kept) (kind number : ℕ) (file : List ℕ) → IsKept s (Some held) → file ≡ held.bytes → s.kept ≡ book
+    → s.journal.kind ≡ kind → s.journal.number ≡ number → OpensTo kind number book file
+opens_to s held book kind number file (contents, stored) is same of_kind of_number =
+    ap (λ (k : ℕ). reads k number file) (sym of_kind) ∙ ap (λ (n : ℕ). reads s.journal.kind n file) (sym of_number)
+    ∙ ap (reads s.journal.kind s.journal.number) is ∙ reads_book s.journal.kind s.journal.number held.bytes contents s.kept stored.journal.file.opened stored.book
+    ∙ ap (λ (k : Kept). Ok k) same

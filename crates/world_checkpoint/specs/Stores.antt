@@ -1,5 +1,5 @@
 -- A checkpoint as a store on its disk, and what a commit to it answers.
-use Rattle.std.specs.Prelude.{⊤, ◌≡◌, ℕ, ◌+◌, ◌<◌, ◌≤◌, Bool, true, false, List, [], length, take, Option, Some, option_map, Result, Ok, Err}
+use Rattle.std.specs.Prelude.{⊤, ◌≡◌, ℕ, ◌+◌, ◌<◌, ◌≤◌, Bool, true, false, List, [], length, take, Option, Some, None, option_map, Result, Ok, Err}
 use Rattle.disk_core.specs.Disk.{Held}
 use Rattle.disk_core.specs.Memory.{Store as Steady, Stopping}
 use Rattle.session_book.specs.declared.record.Record.{Record}
@@ -9,7 +9,7 @@ use Rattle.checkpoint_journal.specs.State.{HasRoom}
 use Rattle.end_store.specs.Records.{kept_after_all, fitting}
 use Rattle.end_store.specs.Stored.{Stored, reads, IsKept, OpensWithFirst}
 use Rattle.world_model.specs.declared.stop.StopAt.{StopAt}
-use Rattle.world_model.specs.World.{Checkpoint, Committed, IsFull, IsCut, IsWhole}
+use Rattle.world_model.specs.World.{Checkpoint, Committed, IsFull, IsCut, IsWhole, new_checkpoint, with_stop, commits}
 use Rattle.world_checkpoint.specs.declared.commits.Armed.{Armed}
 use Rattle.world_checkpoint.specs.declared.commits.CommitStop.{CommitStop}
 use Rattle.world_checkpoint.specs.declared.commits.CommitStop.TheVariants.{Full, Cut, NoMemory, Differs}
@@ -21,6 +21,28 @@ stop_of stop = option_map (λ a. a.stop) stop
 -- a store as a checkpoint, with the stop that is armed
 abbrev pub seen : Option StopAt → Stored → Checkpoint
 seen stop store = record { records = store.journal.records; book = store.kept; stop = stop }
+
+-- at which call of its commit a stop is reached
+abbrev pub call_of : Option Armed → Option ℕ
+call_of stop = option_map (λ a. a.call) stop
+
+-- a checkpoint as its node has it: what the world knows of it, of which kind of end its file is (1 for a LAC, 2 for an LNS), which
+-- number that end has, and the call of its commit at which the stop that is armed is reached
+pub record Filed : Type 0 where
+  pub known : Checkpoint
+  pub kind : ℕ
+  pub number : ℕ
+  pub call : Option ℕ
+
+abbrev pub filed : Option Armed → Stored → Filed
+filed stop store = record { known = seen (stop_of stop) store; kind = store.journal.kind; number = store.journal.number; call = call_of stop }
+
+abbrev pub new_filed : ℕ → ℕ → Filed
+new_filed kind number = record { known = new_checkpoint; kind = kind; number = number; call = None }
+
+-- with this stop, reached at that call
+abbrev pub with_armed : Option StopAt → Option ℕ → Filed → Filed
+with_armed stop call f = record f { known = with_stop stop f.known; call = call }
 
 -- records were cut off by a stop
 abbrev pub IsCutOff : Committed → Type 0
@@ -36,7 +58,22 @@ CommitsTo (Err Cut) c before after = c ≡ IsCut after
 CommitsTo (Err NoMemory) c before after = after ≡ before
 CommitsTo (Err Differs) c before after = IsCutOff c × (after ≡ before)
 
+-- so it is of a node's: it stays the file of that node, and the stop's call stays
+abbrev pub CommitsFile : Filed → List Record → Result ⊤ CommitStop → Filed → Type 0
+CommitsFile before records result after =
+    CommitsTo result (commits before.known records) before.known after.known × (after ≡ record before { known = after.known })
+
 -- ---- the store and its disk
+
+-- one store is of the same node as another
+pub record IsAlike (before after : Stored) : Type 0 where
+  pub kind : after.journal.kind ≡ before.journal.kind
+  pub number : after.journal.number ≡ before.journal.number
+
+-- a store is of that kind and number
+pub record IsOf (kind number : ℕ) (store : Stored) : Type 0 where
+  pub kind_is : store.journal.kind ≡ kind
+  pub number_is : store.journal.number ≡ number
 
 -- the store goes on: the disk has its records, and the room that was made for more
 pub record IsLive {D : Type 0} (holds : D → Option Held) (reach calls_left : D → ℕ) (store : Stored) (disk : D) : Type 0 where
@@ -56,9 +93,9 @@ pub record HasRoomForOne (store : Stored) : Type 0 where
   pub few : store.journal.records < most_records
   pub spare : (1 ≤ store.spare) × (1 ≤ store.journal.spare)
 
--- a file that opens with a book, of whatever kind and node it is
-abbrev pub OpensTo : Kept → List ℕ → Type 0
-OpensTo book file = (kind : ℕ) × (number : ℕ) × (reads kind number file ≡ Ok book)
+-- a file that opens with a book, as that of this kind and number
+abbrev pub OpensTo : ℕ → ℕ → Kept → List ℕ → Type 0
+OpensTo kind number book file = reads kind number file ≡ Ok book
 
 -- ---- records
 

@@ -3,8 +3,8 @@
 ghost use Rattle.std.specs.Prelude.{◌≡◌, Some, None, IfOk};
 ghost use Rattle.std.specs.List.{AllByRecursion};
 ghost use Rattle.step_ledger.specs.Committing.{IsUnmarked};
-ghost use Rattle.world_model.specs.World.{new_checkpoint, with_stop, commits};
-ghost use Rattle.world_checkpoint.specs.Stores.{OpensTo, IsOnDisk, seen, stop_of, CommitsTo};
+ghost use Rattle.world_model.specs.World.{commits};
+ghost use Rattle.world_checkpoint.specs.Stores.{OpensTo, IsOnDisk, IsAlike, seen, stop_of, call_of, new_filed, with_armed, CommitsTo};
 
 use crate::commits::{Armed, CommitStop, commit_all, cut_off};
 use disk_core::SteadyDisk;
@@ -26,12 +26,11 @@ pub struct Checkpoint {
 }
 
 impl Model for Checkpoint {
-    ghost use Rattle.world_model.specs.World.{Checkpoint as Known};
-    ghost use Rattle.world_checkpoint.specs.Stores.{IsOnDisk, seen, stop_of};
+    ghost use Rattle.world_checkpoint.specs.Stores.{Filed, IsOnDisk, filed};
 
-    ghost Value = { Known };
+    ghost Value = { Filed };
 
-    ghost view = { λ c. seen (stop_of c.stop) c.store };
+    ghost view = { λ c. filed c.stop c.store };
 
     ghost invariant = { λ c. IsOnDisk c.store c.disk };
 }
@@ -40,7 +39,7 @@ impl Checkpoint {
     /// A checkpoint without records, and without a stop, on a disk of its own: `kind` is 1 for a LAC's and 2 for an LNS's, `number` is the
     /// node's.
     pub fn new(alloc: Global, kind: u8, number: u8) -> Result<Checkpoint, OutOfMemory>
-        ensures { IfOk result (λ c. c ≡ new_checkpoint) }
+        ensures { IfOk result (λ c. c ≡ new_filed kind number) }
     {
         let mut disk = SteadyDisk::new(alloc, Bytes::new(alloc))?;
         match Store::open(alloc, &mut disk, kind, number) {
@@ -56,21 +55,21 @@ impl Checkpoint {
 
     /// What its disk holds. Opened as the journal of its node it has the checkpoint's book.
     pub fn file(&self) -> &[u8]
-        ensures { OpensTo self.now.book result.now }
+        ensures { OpensTo self.now.kind self.now.number self.now.known.book result.now }
     {
         self.disk.bytes()
     }
 
     /// Arms a stop, in place of the one before, which is reached at this call of its commit, 1 to 4.
     pub fn arm(&mut self, stop: StopAt, call: u8)
-        ensures { self.new ≡ with_stop (Some stop) self.old }
+        ensures { self.new ≡ with_armed (Some stop) (Some call) self.old }
     {
         self.stop = Some(Armed { stop, call });
     }
 
     /// No stop is armed any more.
     pub fn disarm(&mut self)
-        ensures { self.new ≡ with_stop None self.old }
+        ensures { self.new ≡ with_armed None None self.old }
     {
         self.stop = None;
     }
@@ -78,14 +77,13 @@ impl Checkpoint {
 
 impl Ledger for Checkpoint {
     ghost use Rattle.std.specs.Prelude.{⊤};
-    ghost use Rattle.world_model.specs.World.{commits};
-    ghost use Rattle.world_checkpoint.specs.Stores.{CommitsTo};
+    ghost use Rattle.world_checkpoint.specs.Stores.{CommitsFile};
 
     type Stop = CommitStop;
 
     ghost can_commit = { λ _. ⊤ };
 
-    ghost commits_to = { λ before records result after. CommitsTo result (commits before records) before after };
+    ghost commits_to = { CommitsFile };
 
     /// Commits the records of a step: those that are in place are on the disk then, up to a stop that is armed.
     fn commit(&mut self, records: &[Record]) -> Result<(), CommitStop> {
@@ -104,7 +102,7 @@ impl BookedLedger for Checkpoint {
 
     ghost can_lend = { λ _. ⊤ };
 
-    ghost kept = { λ c. c.book };
+    ghost kept = { λ c. c.known.book };
 
     /// The book of all records.
     fn book(&self) -> &Book {
@@ -123,6 +121,8 @@ fn commit_by(
     requires on_disk { IsOnDisk store.old disk.old }
     requires unmarked { AllByRecursion IsUnmarked records.now }
     ensures committed { CommitsTo result (commits (seen (stop_of stop.old) store.old) records.now) (seen (stop_of stop.old) store.old) (seen (stop_of stop.new) store.new) }
+    ensures call { call_of stop.new ≡ call_of stop.old }
+    ensures alike { IsAlike store.old store.new }
     ensures on_disk { IsOnDisk store.new disk.new }
 {
     match *stop {
@@ -144,6 +144,8 @@ fn commit_armed(
     requires unmarked { AllByRecursion IsUnmarked records.now }
     requires armed { stop.old ≡ Some armed }
     ensures committed { CommitsTo result (commits (seen (stop_of stop.old) store.old) records.now) (seen (stop_of stop.old) store.old) (seen (stop_of stop.new) store.new) }
+    ensures call { call_of stop.new ≡ call_of stop.old }
+    ensures alike { IsAlike store.old store.new }
     ensures on_disk { IsOnDisk store.new disk.new }
 {
     let count = records.len();

@@ -4,7 +4,7 @@ ghost use Rattle.std.specs.Prelude.{◌≡◌, ◌≤◌, ◌<◌, ◌+◌, ◌�
 ghost use Rattle.std.specs.List.{AllByRecursion};
 ghost use Rattle.step_ledger.specs.Committing.{IsUnmarked};
 ghost use Rattle.world_model.specs.World.{kept_by};
-ghost use Rattle.world_checkpoint.specs.Stores.{IsOnDisk, CommitsAll, CutsOff};
+ghost use Rattle.world_checkpoint.specs.Stores.{IsOnDisk, IsAlike, CommitsAll, CutsOff};
 
 use crate::stopping::left_by_stop;
 use disk_core::SteadyDisk;
@@ -46,6 +46,7 @@ pub(crate) fn commit_all(
     requires on_disk { IsOnDisk store.old disk.old }
     requires unmarked { AllByRecursion IsUnmarked records.now }
     ensures committed { CommitsAll result records.now store.old store.new }
+    ensures alike { IsAlike store.old store.new }
     ensures on_disk { IsOnDisk store.new disk.new }
 {
     match store.commit_step(disk, records) {
@@ -76,6 +77,7 @@ pub(crate) fn cut_off(
     requires reached { armed.stop.commit ≤ length records.now }
     requires unmarked { AllByRecursion IsUnmarked records.now }
     ensures cut { CutsOff result records.now (take (kept_by armed.stop) records.now) store.old store.new }
+    ensures alike { IsAlike store.old store.new }
     ensures on_disk { IsOnDisk store.new disk.new }
 {
     if is_full(store, records) {

@@ -5,7 +5,7 @@ ghost use Rattle.std.specs.List.{AllByRecursion};
 ghost use Rattle.step_ledger.specs.Committing.{IsUnmarked};
 ghost use Rattle.checkpoint_journal.specs.Format.{opens};
 ghost use Rattle.end_store.specs.Stored.{reads};
-ghost use Rattle.world_checkpoint.specs.Stores.{IsLive, LeavesFirst};
+ghost use Rattle.world_checkpoint.specs.Stores.{IsLive, IsOf, LeavesFirst};
 
 use checkpoint_journal::JournalOpen;
 use disk_core::{Crash, Disk};
@@ -23,6 +23,7 @@ pub(crate) fn store_on<D: Disk + Drop>(
 ) -> Result<Option<(Store, D)>, OutOfMemory>
     ensures book { IfSome (D.holds disk) (λ held. IfOk result (λ found. IfSome found (λ p. reads kind number held.bytes ≡ Ok p.0.kept))) }
     ensures count { IfSome (D.holds disk) (λ held. IfOk result (λ found. IfSome found (λ p. IfOk (opens kind number held.bytes) (λ contents. length contents ≡ p.0.journal.records)))) }
+    ensures of { IfOk result (λ found. IfSome found (λ p. IsOf kind number p.0)) }
     ensures live { IfOk result (λ found. IfSome found (λ p. IsLive D.holds D.reach D.calls_left p.0 p.1)) }
 {
     let mut disk = disk;

@@ -5,7 +5,7 @@ ghost use Rattle.std.specs.List.{AllByRecursion};
 ghost use Rattle.step_ledger.specs.Committing.{IsUnmarked};
 ghost use Rattle.end_store.specs.Records.{fitting};
 ghost use Rattle.world_model.specs.World.{kept_by};
-ghost use Rattle.world_checkpoint.specs.Stores.{IsOnDisk, IsOnStopDisk, HasRoomForOne, HasMore, CutsLast};
+ghost use Rattle.world_checkpoint.specs.Stores.{IsOnDisk, IsOnStopDisk, IsAlike, HasRoomForOne, HasMore, CutsLast};
 
 use crate::commits::Armed;
 use crate::crash::{commit_and_crash, store_on};
@@ -48,6 +48,7 @@ fn copy_of(
 ) -> Result<Option<(Store, StopDisk)>, OutOfMemory>
     requires { IsOnDisk store.now disk.now }
     ensures same { IfOk result (λ found. IfSome found (λ p. HasMore [] store.now p.0)) }
+    ensures alike { IfOk result (λ found. IfSome found (λ p. IsAlike store.now p.0)) }
     ensures on_disk { IfOk result (λ found. IfSome found (λ p. IsOnStopDisk p.0 p.1)) }
 {
     let image = Bytes::from_slice(alloc, disk.bytes())?;
@@ -69,6 +70,7 @@ fn commit_before(
     requires on_disk { IsOnStopDisk store.old disk.old }
     requires unmarked { AllByRecursion IsUnmarked before.now }
     ensures more { IfOk result (λ done. done ≡ true → HasMore before.now store.old store.new) }
+    ensures alike { IfOk result (λ done. done ≡ true → IsAlike store.old store.new) }
     ensures room { IfOk result (λ done. done ≡ true → HasRoomForOne store.new) }
     ensures on_disk { IfOk result (λ done. done ≡ true → IsOnStopDisk store.new disk.new) }
 {
@@ -98,6 +100,7 @@ fn stop_at(
     requires one { length last.now ≤ 1 }
     requires unmarked { AllByRecursion IsUnmarked last.now }
     ensures cut { IfOk result (λ left. IfSome left (λ p. CutsLast armed.stop.kept last.now store.old p.0)) }
+    ensures alike { IfOk result (λ left. IfSome left (λ p. IsAlike store.old p.0)) }
     ensures on_disk { IfOk result (λ left. IfSome left (λ p. IsOnDisk p.0 p.1)) }
 {
     let due = due_with(store, last, armed.stop.kept);
@@ -125,6 +128,7 @@ fn stop_copy(
     requires reached { armed.stop.commit ≤ length records.now }
     requires unmarked { AllByRecursion IsUnmarked records.now }
     ensures cut { IfOk result (λ left. IfSome left (λ p. HasMore (take (kept_by armed.stop) records.now) store.old p.0)) }
+    ensures alike { IfOk result (λ left. IfSome left (λ p. IsAlike store.old p.0)) }
     ensures on_disk { IfOk result (λ left. IfSome left (λ p. IsOnDisk p.0 p.1)) }
 {
     let count = usize::from(armed.stop.commit);
@@ -149,6 +153,7 @@ pub(crate) fn left_by_stop(
     requires reached { armed.stop.commit ≤ length records.now }
     requires unmarked { AllByRecursion IsUnmarked records.now }
     ensures cut { IfOk result (λ left. IfSome left (λ p. HasMore (take (kept_by armed.stop) records.now) store.now p.0)) }
+    ensures alike { IfOk result (λ left. IfSome left (λ p. IsAlike store.now p.0)) }
     ensures on_disk { IfOk result (λ left. IfSome left (λ p. IsOnDisk p.0 p.1)) }
 {
     match copy_of(alloc, store, disk)? {
