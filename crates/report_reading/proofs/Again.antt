@@ -10,7 +10,8 @@ use Rattle.hex.proofs.HexLemmas.{decode_of-encode_lower}
 use Rattle.schedule_text.specs.Grammar.{IsNode}
 use Rattle.schedule_text.specs.Reading.{cut, text_lines, node_of, bytes_of}
 use Rattle.schedule_text.proofs.Numbers.{number_again}
-use Rattle.schedule_text.proofs.LineLaws.{Lacks, cut_again, number_lacks, hex_lacks, digits_lack_feed}
+use Rattle.schedule_text.proofs.LineLaws.{Lacks, cut_again}
+use Rattle.schedule_text.proofs.LinesAgain.{number_lacks, hex_lacks, digits_lack_feed}
 use Rattle.schedule_text.proofs.TextLaws.{fed_line}
 use Rattle.report_reading.specs.declared.entry.Entry.{Entry}
 use Rattle.report_reading.specs.declared.entry.Entry.TheVariants.{Datagram, Frame, Other}

@@ -1,6 +1,7 @@
 //! The world of a schedule: nodes over a network that may lose, repeat and reorder, and the report of a run.
 #![tactic(auto)]
 
+mod carrying;
 mod fault;
 mod held;
 mod kinds;

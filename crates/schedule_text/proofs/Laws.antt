@@ -11,7 +11,8 @@ use Rattle.schedule_text.specs.declared.error.ScheduleError.{ScheduleError}
 use Rattle.schedule_text.specs.declared.error.ScheduleError.TheVariants.{BadLine, NoMemory}
 use Rattle.schedule_text.specs.Grammar.{line_text, FitsLine, AreLines, spelling, IsSchedule, EndsLine, IsBadLine, IsFirstBad}
 use Rattle.schedule_text.specs.Reading.{Told, cut, text_lines, line_of, front_of, lines_of}
-use Rattle.schedule_text.proofs.LineLaws.{Lacks, IsCut, cut_is, line_found, line_again}
+use Rattle.schedule_text.proofs.LineLaws.{Lacks, IsCut, cut_is, line_found}
+use Rattle.schedule_text.proofs.LinesAgain.{line_again}
 use Rattle.schedule_text.proofs.TextLaws.{fed, first_is, others_are, fed_line, unfed_line, fed_texts, spelled_front, texts_again, text_is}
 use Rattle.schedule_text.proofs.TextLines.{first_fed, first_unfed, front_some, front_none, front_nil, bad_is}
 

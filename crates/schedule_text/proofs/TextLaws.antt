@@ -10,7 +10,8 @@ use Rattle.schedule_text.specs.declared.line.Line.{Line}
 use Rattle.schedule_text.specs.declared.line.Line.TheVariants.{Remark, Lac, Lns, OpenUp, Close, Ring, FromSub, Down, Hang, DropCall, Frame, Deliver, Load, Hand, Tick, Crash, Stop, Start}
 use Rattle.schedule_text.specs.Grammar.{call_text, secret_text, mode_text, kept_text, line_text, IsPrintable, IsNode, IsSession, FitsLine, AreLines, spelling, IsText}
 use Rattle.schedule_text.specs.Reading.{put_first, text_lines}
-use Rattle.schedule_text.proofs.LineLaws.{Lacks, number_lacks, hex_lacks, digits_lack_feed, secret_lacks}
+use Rattle.schedule_text.proofs.LineLaws.{Lacks}
+use Rattle.schedule_text.proofs.LinesAgain.{number_lacks, hex_lacks, digits_lack_feed, secret_lacks}
 
 pub first_is : (x y : List ℕ) (xs ys : List (List ℕ)) → x ∷ xs ≡ y ∷ ys → x ≡ y
 first_is x y xs ys e = cc
