@@ -4,3 +4,4 @@ pub mod Orders
 pub mod Folds
 pub mod Whole
 pub mod Counts
+pub mod Sizes

@@ -197,10 +197,12 @@ impl Book {
     }
 
     /// The contents that have this book, and nothing of how it came about: the ceilings that aren't 0 by their spaces; then
-    /// each tunnel, by rising ids, and behind it its mark where that isn't 0; then each call, by rising ids.
+    /// each tunnel, by rising ids, and behind it its mark where that isn't 0; then each call, by rising ids. There are at most
+    /// 67,585 of them: 3 ceilings, 2 for each of 1,024 tunnels, and one for each of 65,534 ids of calls.
     pub fn contents(&self, alloc: Global) -> Result<Contents, NoMemory>
         ensures contents { IfOk result (λ contents. contents ≡ contents_of self.now.kept) }
         ensures same { IfOk result (λ contents. book_of contents ≡ Ok self.now.kept) }
+        ensures few { IfOk result (λ contents. length contents ≤ 67585) }
     {
         self.gather(alloc)
     }
