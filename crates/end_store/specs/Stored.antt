@@ -5,10 +5,11 @@ use Rattle.session_book.specs.declared.record.Record.{Record}
 use Rattle.session_book.specs.declared.book.BookError.{BookError}
 use Rattle.session_book.specs.declared.book.BookError.TheVariants as book_error
 use Rattle.session_book.specs.Books.{Kept, Held as BookHeld, fits, stepped, book_of}
+use Rattle.session_book.specs.Spelling.{contents_of}
 use Rattle.wire_base.specs.Causes.{Rose}
-use Rattle.checkpoint_journal.specs.Format.{most_records, content_place, start_of, opens, is_made, spelling}
+use Rattle.checkpoint_journal.specs.Format.{most_records, content_place, start_of, opens, is_made, spelling, IsOldOrNew}
 use Rattle.checkpoint_journal.specs.Commit.{IsHalfMade}
-use Rattle.checkpoint_journal.specs.State.{State, HasContents, MayFind}
+use Rattle.checkpoint_journal.specs.State.{State, HasContents, MayFind, compacted}
 use Rattle.checkpoint_journal.specs.Answers.{IsSame}
 use Rattle.checkpoint_journal.specs.declared.open.JournalOpen.{JournalOpen}
 use Rattle.checkpoint_journal.specs.declared.open.JournalOpen.TheVariants.{NotJournal, StoreFault, NoMemory}
@@ -127,3 +128,19 @@ StepLeaves before after held now (Err stop.Halted) = IsAsBefore before after hel
 StepLeaves before after held now (Err (stop.StoreFull records)) = IsAsBefore before after held now
 StepLeaves before after held now (Err stop.NoMemory) = IsAsBefore before after held now
 StepLeaves before after held now (Err stop.StoreFault) = Unit {0}
+
+-- ---- a compaction
+
+-- The journal has the contents of the book and no others, in its other area, and room for no more. The book stays, and so does its room.
+abbrev pub compacted_to_book : Stored → Stored
+compacted_to_book s = record s { journal = compacted (length (contents_of s.kept)) s.journal }
+
+-- the file opens with the contents from before or with those of the book alone, and either way with the book
+abbrev pub OpensWithBook : Stored → List (List ℕ) → List ℕ → Type 0
+OpensWithBook store before image =
+    IsOldOrNew store.journal.kind store.journal.number before (contents_of store.kept) image
+    × (reads store.journal.kind store.journal.number image ≡ Ok store.kept)
+
+-- so it is of all that may be found
+abbrev pub FindsBook : Stored → List (List ℕ) → Option Held → Type 0
+FindsBook store before held = IfSome held (λ file. (image : List ℕ) → MayFind file image → OpensWithBook store before image)

@@ -2,18 +2,18 @@
 
 ghost use Rattle.std.specs.Prelude.{◌≡◌, ◌≤◌, ◌<◌, ◌-◌, ◌++◌, ◌∷◌, [], ℕ, List, length, min, IfOk, OnOk, OnErr, IfSome, Some, is_some, true, false};
 ghost use Rattle.std.specs.List.{AllByRecursion};
-ghost use Rattle.checkpoint_journal.specs.Format.{most_records, opens};
+ghost use Rattle.checkpoint_journal.specs.Format.{most_records, opens, other_area};
 ghost use Rattle.checkpoint_journal.specs.State.{opened_at, HasRoom};
-ghost use Rattle.checkpoint_journal.specs.Answers.{Opens, OpenHasCause, IsUnwritten, IsSafe, IsMadeNew, RoomHasCause, StopHasCause, SomeHaveCause};
+ghost use Rattle.checkpoint_journal.specs.Answers.{Opens, OpenHasCause, IsUnwritten, IsSafe, IsMadeNew, RoomHasCause, StopHasCause, SomeHaveCause, CompactHasCause, CompactLeaves};
 ghost use Rattle.session_book.specs.Books.{fits, book_of};
 ghost use Rattle.session_book.specs.Records.{record_of};
-ghost use Rattle.session_book.specs.Spelling.{content_of};
+ghost use Rattle.session_book.specs.Spelling.{content_of, contents_of};
 ghost use Rattle.step_ledger.specs.Committing.{IsUnmarked};
 ghost use Rattle.end_store.specs.Records.{fitting, spelled};
-ghost use Rattle.end_store.specs.Stored.{placed, reads, IsRead, prepared, with_record, with_records, IsStored, IsKept, IsLeftBehind, FindsFirst, StepHasCause, StepLeaves};
+ghost use Rattle.end_store.specs.Stored.{placed, reads, IsRead, prepared, with_record, with_records, IsStored, IsKept, IsLeftBehind, FindsFirst, FindsBook, StepHasCause, StepLeaves, compacted_to_book};
 
 use crate::spelling::spell;
-use checkpoint_journal::{Journal, JournalOpen, JournalRoom, JournalStop, open_disk};
+use checkpoint_journal::{CompactStop, Journal, JournalOpen, JournalRoom, JournalStop, open_disk};
 use disk_core::Disk;
 use session_book::{Book, BookError, Record};
 use std::alloc::Global;
@@ -256,5 +256,32 @@ impl Store {
                 Err(JournalStop::StoreFault) => Err(StoreStop::StoreFault),
             },
         }
+    }
+
+    /// Compacts the journal to what the book has: the contents of the book are its records then, in the area that wasn't in use,
+    /// and those of tunnels and calls that came and went are gone. It makes four calls of the device, or none. Afterwards there is
+    /// room on the disk for no record until it is made.
+    pub fn compact<D: Disk>(&mut self, alloc: Global, disk: &mut D) -> Result<(), CompactStop>
+        requires room { self.old.journal.halted ≡ false → HasRoom D.reach D.calls_left self.old.journal disk.old }
+        ensures room { self.new.journal.halted ≡ false → HasRoom D.reach D.calls_left self.new.journal disk.new }
+        ensures state { OnOk result (self.new ≡ compacted_to_book self.old) }
+        ensures book { (self.new.kept ≡ self.old.kept) × (self.new.spare ≡ self.old.spare) }
+        ensures cause { CompactHasCause self.old.journal self.new.journal (D.faults disk.old) (D.faults disk.new) result }
+        ensures file { CompactLeaves (other_area self.old.journal.start) (contents_of self.old.kept) (D.holds disk.old) (D.holds disk.new) result }
+        ensures tells { is_some (D.holds disk.new) ≡ is_some (D.holds disk.old) }
+
+        // At `Ok` the disk has the contents of the book, and no others.
+        ensures stored { (before : List (List ℕ)) → IsStored self.old before (D.holds disk.old)
+            → OnOk result (IsStored self.new (contents_of self.old.kept) (D.holds disk.new)) }
+
+        // Whatever comes of the call, the file opens with the book: with the contents from before, or with those of the book alone.
+        ensures crash { (before : List (List ℕ)) → IsStored self.old before (D.holds disk.old)
+            → FindsBook self.old before (D.holds disk.new) }
+    {
+        if self.is_halted() {
+            return Err(CompactStop::Halted);
+        }
+        let contents = self.book.contents(alloc)?;
+        self.journal.compact(alloc, disk, &contents)
     }
 }

@@ -3,6 +3,8 @@
 #![tactic(auto)]
 
 #[cfg(test)]
+mod compaction_tests;
+#[cfg(test)]
 mod end_store_tests;
 #[cfg(test)]
 mod ledger_tests;
