@@ -1,2 +1,3 @@
 pub mod Remotes
 pub mod Replays
+pub mod Telling

@@ -10,12 +10,15 @@ ghost use Rattle.end_model.specs.Asking.{is_call_of, call_of, session_named};
 ghost use Rattle.tunnel_timers.specs.Due.{IsNoLater, bound_of, call_due, calls_due, due_at, earliest_at};
 ghost use Rattle.tunnel_calls.specs.Replays.{replays};
 
+mod telling;
+
 use call_fsm::CallState;
 use end_model::Call;
 use id_index::Index;
 use id_table::Table;
 use std::alloc::Global;
 use std::marker::Model;
+pub use telling::{CallRows, Rows};
 use tunnel_timers::call_due;
 use wire_base::{NoMemory, Sequence};
 

@@ -42,14 +42,15 @@ repetition_is n = repetition_by n.frozen (nat_lt 0 n.window.outstanding) (n.wind
 
 -- ---- the earliest of many, by their ids
 
-module _ {X : Type 0} (f : ℕ × X → Option ℕ) where
-  self_is : (i : ℕ) → eqb i i ≡ true
-  self_is i = grind (arith, nat_tests)
+self_is : (i : ℕ) → eqb i i ≡ true
+self_is i = grind (arith, nat_tests)
 
-  other_is : (i j : ℕ) → j < i → eqb i j ≡ false
-  other_is i j lt = grind (arith, nat_tests)
+other_is : (i j : ℕ) → j < i → eqb i j ≡ false
+other_is i j lt = grind (arith, nat_tests)
 
-  abbrev AreFound : List (ℕ × X) → List (ℕ × X) → Type 0
+module _ {X : Type 0} where
+  -- each of these entries is found by its id
+  abbrev pub AreFound : List (ℕ × X) → List (ℕ × X) → Type 0
   AreFound es fs = AllByRecursion (λ e. at es e.0 ≡ Some e.1) fs
 
   found_further : (e : ℕ × X) (es fs : List (ℕ × X)) → IsAbove e.0 fs → AreFound es fs → AreFound (e ∷ es) fs
@@ -57,11 +58,12 @@ module _ {X : Type 0} (f : ℕ × X → Option ℕ) where
   found_further e es (x ∷ fs) above found =
       (at-cons e es x.0 ∙ rw (other_is x.0 e.0 above.0) found.0, found_further e es fs above.1 found.1)
 
-  all_found : (es : List (ℕ × X)) → Ascends es → AreFound es es
+  pub all_found : (es : List (ℕ × X)) → Ascends es → AreFound es es
   unfolding Ascends
   all_found [] ascend = tt
   all_found (e ∷ es) ascend = (at-cons e es e.0 ∙ rw (self_is e.0) refl, found_further e es es ascend.0 (all_found es ascend.1))
 
+module _ {X : Type 0} (f : ℕ × X → Option ℕ) where
   earliest_by : (es fs : List (ℕ × X)) → AreFound es fs → earliest_at f es (ids_of fs) ≡ earliest f fs
   unfolding earliest_at earliest
   earliest_by es [] found = refl

@@ -1,0 +1,7 @@
+use Rattle.std.proofs.Common.{◌≡◌, ◌++◌, drop, flat_map}
+use Rattle.id_table.specs.Ids.{at}
+use Rattle.tunnel_calls.specs.Telling.{rows_at}
+use Rattle.tunnel_calls.proofs.telling.rows_at.Given as goal
+
+abbrev pub invariant-loop-session : goal.invariant-loop-session
+invariant-loop-session l = l.rows ++ flat_map (λ s. rows_at s (at l.calls.entries s)) (drop l.session-index l.sessions) ≡ flat_map (λ s. rows_at s (at l.calls.entries s)) l.sessions
