@@ -25,4 +25,5 @@ mod turn;
 
 pub use env::{Env, Moves, Outputs};
 pub use planning::{Planned, TunnelCore};
+pub use tunnel_calls::{CallRows, Rows};
 pub use tunnel_rules::same_state;

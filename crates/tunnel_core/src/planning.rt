@@ -8,6 +8,7 @@ ghost use Rattle.end_model.specs.Tunnels.{turn_of};
 ghost use Rattle.end_model.specs.Turn.{with_turn};
 ghost use Rattle.end_model.specs.Events.{turns, with_calls, tunnel_after};
 ghost use Rattle.tunnel_timers.specs.Due.{IsNoLater, tunnel_due};
+ghost use Rattle.tunnel_calls.specs.Telling.{rows_of, pairs_of, RowsLead};
 ghost use Rattle.tunnel_core.specs.Cores.{tunnel_of, made_of, AllHaveRoom, AllCallsReplay, HasRoomFor, IsTurn};
 
 use crate::env::Env;
@@ -21,10 +22,10 @@ use id_table::Table;
 use send_window::Letters;
 use std::alloc::Global;
 use std::marker::Model;
-use tunnel_calls::TunnelCalls;
+use tunnel_calls::{Rows, TunnelCalls};
 use tunnel_fsm::TunnelState;
 use tunnel_timers::channel_due;
-use wire_base::{NoMemory, Sequence, Why};
+use wire_base::{NoMemory, Pairs, Sequence, Why};
 
 /// What counts as the peer's receive window, in letters, as long as it isn't known (RFC 2661 section 4.4.3).
 const WINDOW: u16 = 4;
@@ -140,6 +141,28 @@ impl TunnelCore {
         ensures { result.now ≡ self.now.calls }
     {
         self.calls.table()
+    }
+
+    /// The rows of the tables that each live call went through, in order of the session ids.
+    pub fn rows(&self) -> Result<Rows, NoMemory>
+        ensures { IfOk result (λ rows. rows ≡ rows_of self.now.calls.entries) }
+    {
+        self.calls.rows()
+    }
+
+    /// The calls that are established, in order of the session ids: each by its own id and the one that the peer assigned.
+    pub fn established(&self) -> Result<Pairs, NoMemory>
+        ensures { IfOk result (λ pairs. pairs ≡ pairs_of self.now.calls.entries) }
+    {
+        self.calls.established()
+    }
+
+    /// A law: what `rows` tells of each live call are rows of the two tables of calls, which follow on each other from the state in
+    /// which the call began, idle or established, and lead to its state.
+    pub fn replays(&self)
+        ensures { RowsLead self.now.calls.entries }
+    {
+        self.calls.replays();
     }
 
     /// A moment before which a tick does nothing for the tunnel, in milliseconds.
