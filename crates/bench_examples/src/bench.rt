@@ -13,17 +13,12 @@ use wire_base::{Bytes, NoMemory, Why};
 
 /// What an end of this number is told. A secret of no bytes is none.
 fn config(number: u8, lns: u32, secret: Bytes) -> Config {
-    Config {
-        number,
-        address: address_of(number),
-        lns,
-        secret: if secret.len() == 0 {
-            None
-        } else {
-            Some(secret)
-        },
-        hide: false,
-    }
+    let secret = if secret.len() == 0 {
+        None
+    } else {
+        Some(secret)
+    };
+    Config::new(number, address_of(number), lns, secret, false)
 }
 
 /// What an end gives for an event: its outputs, and the Ethernet frame that answers a host behind them.

@@ -17,8 +17,8 @@ use Rattle.end_model.specs.Channels.{peer_window}
 use Rattle.end_model.specs.Contents.{tunnel_down, call_down}
 use Rattle.end_model.specs.End.{End}
 use Rattle.end_model.specs.Moments.{is_open}
-use Rattle.end_model.specs.Tunnels.{Tunnel}
-use Rattle.step_laws.specs.Moves.{with_tunnel, new_tunnel}
+use Rattle.end_model.specs.Tunnels.{Tunnel, new_tunnel}
+use Rattle.step_laws.specs.Moves.{with_tunnel}
 use Rattle.book_laws.specs.Books.{Mirrors, AreDrawn, booked_control, booked_call, tunnel_record, call_record, record_in, CallFits, TunnelFits, TablesFit, AreInPlace, book_after}
 use Rattle.book_laws.proofs.Lists.{put_most, put_there}
 use Rattle.book_laws.proofs.Views.{same_book, TunnelComes, tunnel_came, tunnel_fits, TunnelGoes, tunnel_went_fits, tunnel_went, CallComes, call_came, call_fits, CallGoes, call_went_fits, call_went}

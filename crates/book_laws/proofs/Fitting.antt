@@ -9,10 +9,9 @@ use Rattle.end_model.specs.declared.tunnel.Call.{Call}
 use Rattle.end_model.specs.declared.tunnel.Control.{Control}
 use Rattle.end_model.specs.Channels.{peer_window}
 use Rattle.end_model.specs.End.{End}
-use Rattle.end_model.specs.Tunnels.{Tunnel}
+use Rattle.end_model.specs.Tunnels.{Tunnel, new_tunnel}
 use Rattle.book_laws.specs.Books.{HasNone, CallFits, TunnelFits, TablesFit}
 use Rattle.book_laws.proofs.Lists.{put_most, put_there, without_most}
-use Rattle.step_laws.specs.Moves.{new_tunnel}
 
 -- an end that comes after another: of the same role, and it has drawn as many ids or more
 pub record Grows (e x : End) : Type 0 where

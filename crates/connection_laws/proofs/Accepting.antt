@@ -16,13 +16,13 @@ use Rattle.end_model.specs.declared.moves.Move.TheVariants as move
 use Rattle.end_model.specs.declared.out.ControlOrigin.{ControlOrigin}
 use Rattle.end_model.specs.declared.tunnel.Control.{Control}
 use Rattle.end_names.specs.Names.{address_of, node_of}
-use Rattle.end_model.specs.Tunnels.{Tunnel}
+use Rattle.end_model.specs.Tunnels.{Tunnel, new_tunnel}
 use Rattle.end_model.specs.Channels.{letter_of, counts_taken, learns_window}
 use Rattle.end_model.specs.Messages.{flags_of, opening_of}
 use Rattle.end_model.specs.End.{End}
 use Rattle.world_model.specs.World.{Sender, Deed, config_of}
 use Rattle.step_laws.specs.Letters.{Letter}
-use Rattle.step_laws.specs.Moves.{with_tunnel, with_letter, new_tunnel, begun}
+use Rattle.step_laws.specs.Moves.{with_tunnel, with_letter, begun}
 use Rattle.frame_laws.specs.Codecs.{Codecs}
 use Rattle.connection_laws.specs.Accounts.{Opener, Acceptor, Taken, Account, no_account}
 use Rattle.connection_laws.specs.Facts.{Accounts, IsTaken, AreTaken, partner_in, IsOpener, IsAcceptor, AccountOk, kept_letter, LiveOk, IsNear, Within}
@@ -32,7 +32,8 @@ use Rattle.connection_laws.proofs.Later.{after_move, only_after}
 use Rattle.connection_laws.proofs.Put.{puts_keep}
 use Rattle.connection_laws.proofs.Written.{asks_short, responds_sized, opening_written, same_opening, node_again, node_fits}
 use Rattle.connection_laws.proofs.Beginning.{undrawn}
-use Rattle.end_model.specs.Reading.{body_of, message_in}
+use Rattle.l2tp_header.specs.Reading.{body_of}
+use Rattle.end_model.specs.Reading.{message_in}
 use Rattle.connection_laws.proofs.Alike.{read_same}
 use Rattle.connection_laws.proofs.Hearing.{opener_of, sccrq_of, IsLetterRead, FromPeer, letter_said, said_in, from_peer_said}
 use Rattle.connection_laws.proofs.Taking.{got_push, with_taken, taken_as, takes_and_gives}
@@ -48,7 +49,7 @@ module _ (codecs : Codecs) (accs : Accounts) (n : ℕ) (e x : End) (sender : Opt
 
   -- ---- the SCCRQ
 
-  said : message_in (body_of h.does.hears.1.letter.header h.does.hears.1.came.bytes) ≡ Ok (Sccrq h.does.opening)
+  said : message_in (body_of h.does.hears.1.came.bytes h.does.hears.1.letter.header) ≡ Ok (Sccrq h.does.opening)
   said = let k = h.does.hears.1 in said_in ev k.letter k.came (Sccrq h.does.opening) k.says.said
 
   f : FromPeer accs n e sender ev h.within.comes m.peer h.does.hears.1.letter.header h.does.hears.1.came.bytes
@@ -71,7 +72,7 @@ module _ (codecs : Codecs) (accs : Accounts) (n : ℕ) (e x : End) (sender : Opt
   letter = letter_said codecs p o h.does.hears.1.letter.header h.does.hears.1.came.bytes (Sccrq h.does.opening) f.read said
 
   message : letter.letter.message ≡ Sccrq h.does.opening
-  message = read_same letter.letter.message (body_of h.does.hears.1.letter.header h.does.hears.1.came.bytes) letter.reads (Sccrq h.does.opening) said tt
+  message = read_same letter.letter.message (body_of h.does.hears.1.came.bytes h.does.hears.1.letter.header) letter.reads (Sccrq h.does.opening) said tt
 
   asks : (p.part ≡ Opener) × (o.ns ≡ 0) × (h.does.opening.tunnel ≡ o.tunnel)
   asks = sccrq_of accs from o.tunnel (h.within.accounts from o.tunnel) f.copy.made o.ns letter.letter h.does.opening letter.there message

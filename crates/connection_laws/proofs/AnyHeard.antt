@@ -12,7 +12,8 @@ use Rattle.avp_codec.specs.Reading.{avps_of}
 use Rattle.end_model.specs.declared.event.Event.{Event}
 use Rattle.end_model.specs.declared.out.ControlOrigin.{ControlOrigin}
 use Rattle.end_model.specs.declared.tunnel.Control.{Control}
-use Rattle.end_model.specs.Reading.{body_of, message_in, pairs_read, message_read, call_fault_in, fault_of_pairs, tunnel_fault_in, tunnel_fault_of_pairs, tunnel_fault_read}
+use Rattle.l2tp_header.specs.Reading.{body_of}
+use Rattle.end_model.specs.Reading.{message_in, pairs_read, message_read, call_fault_in, fault_of_pairs, tunnel_fault_in, tunnel_fault_of_pairs, tunnel_fault_read}
 use Rattle.end_model.specs.End.{End}
 use Rattle.world_model.specs.World.{Sender}
 use Rattle.step_laws.specs.Letters.{Letter}
@@ -53,7 +54,7 @@ letters_are_heard codecs accs n e sender ev within i t there session m opens_non
     let said = said_in ev k.letter k.comes.came m k.says.said in
     let from = heard_said codecs accs n e sender ev within i t there h bytes (heard_to ev t.control k.letter k.comes) m no_stop said in
     let q = letter_said codecs (sender_in accs n i from.o) from.o h bytes m from.read said in
-    let same = read_alike q.letter.message (body_of h bytes) q.reads m said in
+    let same = read_alike q.letter.message (body_of bytes h) q.reads m said in
     let learned = learned_unless accs n i from.o within.accounts q.letter q.there (no_opening_alike q.letter.message m same opens_none)
     (no_stop_alike q.letter.message m same no_stop) from.linked in
     record {
@@ -79,8 +80,8 @@ hears_written codecs accs n e sender ev within peer session m k =
     let bytes = k.came.bytes in
     let said = said_in ev k.letter k.came m k.says.said in
     ⊎_elim
-    (λ (q : PeerSays h bytes). read_written q.message (body_of h bytes) q.reads m said)
-    (λ (none : body_of h bytes ≡ []). absurd (no_message codecs m (let is = said in rw none at is)))
+    (λ (q : PeerSays h bytes). read_written q.message (body_of bytes h) q.reads m said)
+    (λ (none : body_of bytes h ≡ []). absurd (no_message codecs m (let is = said in rw none at is)))
     (peer_says codecs accs n e sender ev within k.letter.peer h bytes k.came.is k.came.read k.came.control)
 
 pub openings_are_acceptable : Codecs → OpeningsAreAcceptable
@@ -102,10 +103,10 @@ pub faults_are_of_requests : Codecs → FaultsAreOfRequests
 faults_are_of_requests codecs accs n e sender ev within c session f k =
     let h = k.letter.header in
     let came = k.comes.came in
-    let fault : call_fault_in (body_of h came.bytes) ≡ Some f = ap call_fault_in (sym came.body_is) ∙ k.says.fault in
+    let fault : call_fault_in (body_of came.bytes h) ≡ Some f = ap call_fault_in (sym came.body_is) ∙ k.says.fault in
     ⊎_elim
-    (λ (q : PeerSays h came.bytes). let r = read_faulty q.message (body_of h came.bytes) q.reads f fault in (r.0, r.4))
-    (λ (nothing : body_of h came.bytes ≡ []).
+    (λ (q : PeerSays h came.bytes). let r = read_faulty q.message (body_of came.bytes h) q.reads f fault in (r.0, r.4))
+    (λ (nothing : body_of came.bytes h ≡ []).
     let none = no_fault_in_none codecs in
     let found : call_fault_in [] ≡ Some f = (let had = fault in rw nothing at had) in
     absurd cc)
@@ -114,10 +115,10 @@ faults_are_of_requests codecs accs n e sender ev within c session f k =
 pub none_is_faulty_in_tunnel : Codecs → NoneIsFaultyInTunnel
 none_is_faulty_in_tunnel codecs accs n e sender ev within k g came some has =
     let h = k.header in
-    let fault : tunnel_fault_in (body_of h came.bytes) ≡ Some g = ap tunnel_fault_in (sym came.body_is) ∙ has in
+    let fault : tunnel_fault_in (body_of came.bytes h) ≡ Some g = ap tunnel_fault_in (sym came.body_is) ∙ has in
     ⊎_elim
     (λ (q : PeerSays h came.bytes).
-    let none = read_sound q.message (body_of h came.bytes) q.reads in
+    let none = read_sound q.message (body_of came.bytes h) q.reads in
     let no : ⊥ = cc in no)
-    (λ (none : body_of h came.bytes ≡ []). some (ap length (came.body_is ∙ none)))
+    (λ (none : body_of came.bytes h ≡ []). some (ap length (came.body_is ∙ none)))
     (peer_says codecs accs n e sender ev within k.peer h came.bytes came.is came.read came.control)

@@ -14,14 +14,14 @@ use Rattle.end_model.specs.declared.out.Origin.{Origin}
 use Rattle.end_model.specs.declared.out.Origin.TheVariants as origin
 use Rattle.world_model.specs.declared.packet.Packet.{Packet}
 use Rattle.end_names.specs.Names.{address_of, node_of}
-use Rattle.end_model.specs.Tunnels.{Tunnel}
+use Rattle.end_model.specs.Tunnels.{Tunnel, new_tunnel}
 use Rattle.end_model.specs.Channels.{letter_of}
 use Rattle.end_model.specs.Messages.{opening_of}
 use Rattle.end_model.specs.End.{End}
 use Rattle.world_model.specs.World.{Sender, Deed, config_of}
 use Rattle.step_laws.specs.Callers.{WantsTunnel, LacWants}
 use Rattle.step_laws.specs.Letters.{Letter}
-use Rattle.step_laws.specs.Moves.{Asks, with_tunnel, with_letter, new_tunnel, begun}
+use Rattle.step_laws.specs.Moves.{Asks, with_tunnel, with_letter, begun}
 use Rattle.connection_laws.specs.Accounts.{Part, Unmade, Opener, Acceptor, Account, no_account, gives}
 use Rattle.connection_laws.specs.Facts.{Accounts, IsMade, IsPart, AccountOk, LiveOk, EndOk, Comes, Within}
 use Rattle.connection_laws.proofs.Keeps.{IsDeed, after, IsMoved}

@@ -22,9 +22,10 @@ use Rattle.end_model.specs.declared.moves.Declined.{Declined}
 use Rattle.end_model.specs.declared.moves.Move.TheVariants as move
 use Rattle.end_model.specs.declared.out.Origin.{Origin}
 use Rattle.end_names.specs.Names.{node_of}
-use Rattle.end_model.specs.Reading.{body_of, message_in, pairs_read, message_read, at_zero, zero_pairs, zero_read}
+use Rattle.l2tp_header.specs.Reading.{body_of}
+use Rattle.end_model.specs.Reading.{message_in, pairs_read, message_read, at_zero, zero_pairs, zero_read}
 use Rattle.end_model.specs.End.{End, decline_origin}
-use Rattle.world_model.specs.World.{Sender, Deed}
+use Rattle.world_model.specs.World.{Sender, Deed, packet_from}
 use Rattle.step_laws.specs.Moves.{WhyDeclined, AnOpening, AFaultyOpening, AnAnswer, Declines}
 use Rattle.step_laws.specs.Opens.{empty_opens_none}
 use Rattle.frame_laws.specs.Codecs.{Codecs}
@@ -104,7 +105,7 @@ reply_opens m o e h = subst IsNoOpening e h
 module _ (codecs : Codecs) (accs : Accounts) (n : ℕ) (e x : End) (sender : Option Sender) (ev : Event) (within : Within accs n e sender ev) (m : Declined)
     (d : Declines e ev m x) where
   abbrev body : List ℕ
-  body = body_of d.header d.bytes
+  body = body_of d.bytes d.header
 
   -- it is a copy of what a tunnel sent
   module _ (f : FromPeer accs n e sender ev within.comes m.peer d.header d.bytes) where
@@ -177,14 +178,14 @@ declined_keeps codecs accs n e x sender moment ev d m h =
 
 pub declined_ok : (ms : Accounts) (n : ℕ) → n < 256 → (m : Declined) → WasOpening ms n m → (peer : ℕ) (bytes : List ℕ) (o : Origin) → peer ≡ m.peer
     → bytes ≡ control_bytes m.remote 0 0 m.nr (spelling (pairs_of (StopCcn 0 m.result m.error))) → o ≡ decline_origin m.nr
-    → PacketOk ms (record { from = n; to = node_of peer; bytes = bytes; origin = o })
+    → PacketOk ms (packet_from n (node_of peer) bytes o)
 declined_ok ms n lt m was peer bytes o peer_is are is =
     let opener = was.opener in
     let goes = was.peer in
     let told = was.declined in
     record {
       from = lt;
-      sent = subst (λ (q : Origin). OriginOk ms (record { from = n; to = node_of peer; bytes = bytes; origin = o }) q) (sym is) (inr (record {
+      sent = subst (λ (q : Origin). OriginOk ms (packet_from n (node_of peer) bytes o) q) (sym is) (inr (record {
         none = refl;
         ns = refl;
         nr = was.nr;

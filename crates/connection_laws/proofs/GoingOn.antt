@@ -9,7 +9,7 @@ use Rattle.control_message.specs.declared.message.Message.{Message}
 use Rattle.control_message.specs.declared.message.Message.TheVariants.{Sccrq, Sccrp}
 use Rattle.control_message.specs.declared.message.Opening.{Opening}
 use Rattle.tunnel_fsm.specs.Rows.{state_number}
-use Rattle.end_model.specs.Reading.{body_of}
+use Rattle.l2tp_header.specs.Reading.{body_of}
 use Rattle.end_model.specs.declared.event.Event.{Event}
 use Rattle.end_model.specs.declared.event.Event.TheVariants.{Datagram, Ring, Frame, Admitted, Payload, Lower, Lcp, Hang, OpenTunnel, DropCall, CloseTunnel, Tick}
 use Rattle.end_model.specs.declared.event.Addressee.TheVariants.{Opens, Stops}
@@ -111,13 +111,13 @@ are_acked_on accs n i a b acked peer remote keeps Acceptor h =
     subst (λ (x : Account). ((x.remote ≡ i → ⊥) → (acked ≡ 0) ⊎ IsLost x) × (x.remote ≡ i → acked ≤ length x.taken)) same h
 
 -- a message for the tunnel as it is was for it as it was
-pub for_back : (h : Header) (bytes : List ℕ) (c d : Control) → d.local ≡ c.local → d.remote ≡ c.remote → IsFor h (body_of h bytes) d → IsFor h (body_of h bytes) c
+pub for_back : (h : Header) (bytes : List ℕ) (c d : Control) → d.local ≡ c.local → d.remote ≡ c.remote → IsFor h (body_of bytes h) d → IsFor h (body_of bytes h) c
 for_back h bytes c d local remote f =
     ⊎_elim
     (λ names. inl (names ∙ local))
     (λ other. inr (⊎_elim
-    (λ (again : IsAgain h (body_of h bytes) d). inl (record { none = again.none; opens = again.opens ∙ ap (λ r. Opens r) remote }))
-    (λ (stop : IsStop h (body_of h bytes) d). inr (record { none = stop.none; stops = stop.stops ∙ ap (λ r. Stops r) remote }))
+    (λ (again : IsAgain h (body_of bytes h) d). inl (record { none = again.none; opens = again.opens ∙ ap (λ r. Opens r) remote }))
+    (λ (stop : IsStop h (body_of bytes h) d). inr (record { none = stop.none; stops = stop.stops ∙ ap (λ r. Stops r) remote }))
     other))
     f
 

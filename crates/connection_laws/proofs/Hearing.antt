@@ -7,7 +7,7 @@ use Rattle.id_table.specs.Ids.{at}
 use Rattle.l2tp_header.specs.declared.header.Header.{Header}
 use Rattle.l2tp_header.specs.Again.{control_header}
 use Rattle.l2tp_header.specs.Spelling.{control_bytes, data_bytes}
-use Rattle.l2tp_header.specs.Reading.{header_of}
+use Rattle.l2tp_header.specs.Reading.{header_of, body_of}
 use Rattle.avp_codec.specs.Spelling.{spelling}
 use Rattle.control_message.specs.declared.message.Message.{Message}
 use Rattle.control_message.specs.declared.message.Message.TheVariants.{Sccrq, Sccrp, StopCcn}
@@ -23,7 +23,7 @@ use Rattle.end_model.specs.declared.out.ControlOrigin.{ControlOrigin}
 use Rattle.world_model.specs.declared.packet.Packet.{Packet}
 use Rattle.end_model.specs.declared.tunnel.Control.{Control}
 use Rattle.end_names.specs.Names.{address_of}
-use Rattle.end_model.specs.Reading.{body_of, message_in, pairs_read, message_read}
+use Rattle.end_model.specs.Reading.{message_in, pairs_read, message_read}
 use Rattle.end_model.specs.Tunnels.{Tunnel}
 use Rattle.end_model.specs.End.{End}
 use Rattle.world_model.specs.World.{Sender, sender_of}
@@ -94,13 +94,13 @@ pub record IsLetterRead (b : Account) (o : ControlOrigin) (h : Header) (bytes : 
   pub some : o.empty ≡ false
   pub there : slice_get b.given o.ns ≡ Some letter
   pub session : h.session ≡ letter.session
-  pub reads : IsReadAs letter.message (body_of h bytes)
+  pub reads : IsReadAs letter.message (body_of bytes h)
   pub spelled : IsSpelled letter
 
 -- or none
 pub record IsNoneRead (o : ControlOrigin) (h : Header) (bytes : List ℕ) : Type 0 where
   pub none : o.empty ≡ true
-  pub body : body_of h bytes ≡ []
+  pub body : body_of bytes h ≡ []
 
 -- how it names the tunnel that it is for
 abbrev pub NamesNone : Account → ControlOrigin → ℕ → Type 0
@@ -154,7 +154,7 @@ module _ (codecs : Codecs) where
     pub session_is : h.session ≡ session
     pub ns_is : unwrap_or h.ns 0 ≡ on_wire ns
     pub nr_is : unwrap_or h.nr 0 ≡ on_wire nr
-    pub body : body_of h bytes ≡ pairs
+    pub body : body_of bytes h ≡ pairs
 
   control_read : (tunnel session ns nr : ℕ) (pairs bytes : List ℕ) (h : Header) → tunnel < 65536 → session < 65536 → length pairs ≤ 65523
       → bytes ≡ control_bytes tunnel session (on_wire ns) (on_wire nr) pairs → header_of bytes ≡ Ok h → ControlRead tunnel session ns nr pairs bytes h
@@ -372,18 +372,18 @@ record IsControl (accs : Accounts) (p : Packet) : Type 0 where
 -- it is read as a message that is written by the rules
 pub record PeerSays (h : Header) (bytes : List ℕ) : Type 0 where
   pub message : Message
-  pub reads : IsReadAs message (body_of h bytes)
+  pub reads : IsReadAs message (body_of bytes h)
 
 -- a StopCCN of no tunnel says nothing that stops none
 refusal_stops : (tunnel : ℕ) (o : ControlOrigin) (h : Header) (bytes : List ℕ) → RefusalRead tunnel o h bytes → (m : Message) → IsNoStop m
-    → message_in (body_of h bytes) ≡ Ok m → ⊥
+    → message_in (body_of bytes h) ≡ Ok m → ⊥
 refusal_stops tunnel o h bytes r m plain said =
     let was = r.said in
     let same : m ≡ StopCcn 0 r.result r.error = cc in
     subst IsNoStop same plain
 
 -- a control message with a body is a letter
-pub letter_some : (b : Account) (o : ControlOrigin) (h : Header) (bytes : List ℕ) → CopyRead b o h bytes → (length (body_of h bytes) ≡ 0 → ⊥)
+pub letter_some : (b : Account) (o : ControlOrigin) (h : Header) (bytes : List ℕ) → CopyRead b o h bytes → (length (body_of bytes h) ≡ 0 → ⊥)
     → IsLetterRead b o h bytes
 letter_some b o h bytes read some = ⊎_elim
     (λ (q : IsLetterRead b o h bytes). q)
@@ -393,7 +393,7 @@ letter_some b o h bytes read some = ⊎_elim
 module _ (codecs : Codecs) where
   -- where it says something, it is a letter
   pub letter_said : (b : Account) (o : ControlOrigin) (h : Header) (bytes : List ℕ) (m : Message) → CopyRead b o h bytes
-      → message_in (body_of h bytes) ≡ Ok m → IsLetterRead b o h bytes
+      → message_in (body_of bytes h) ≡ Ok m → IsLetterRead b o h bytes
   letter_said b o h bytes m read said = ⊎_elim
       (λ (q : IsLetterRead b o h bytes). q)
       (λ (q : IsNoneRead o h bytes). absurd (no_message codecs m (let s = said in rw q.body at s)))
@@ -453,7 +453,7 @@ module _ (codecs : Codecs) where
   -- where it stops no tunnel, it is of a tunnel of the peer's
   pub from_peer_said : (accs : Accounts) (n : ℕ) (e : End) (sender : Option Sender) (ev : Event) (within : Within accs n e sender ev) (peer : ℕ) (h : Header)
       (bytes : List ℕ) → ev ≡ Datagram peer bytes → header_of bytes ≡ Ok h → h.control ≡ true → (m : Message) → IsNoStop m
-      → message_in (body_of h bytes) ≡ Ok m → FromPeer accs n e sender ev within.comes peer h bytes
+      → message_in (body_of bytes h) ≡ Ok m → FromPeer accs n e sender ev within.comes peer h bytes
   from_peer_said accs n e sender ev within peer h bytes is reads control m plain said = ⊎_elim
       (λ (f : FromPeer accs n e sender ev within.comes peer h bytes). f)
       (λ (r : DeclinedByPeer accs n e sender ev within.comes peer h bytes). absurd (refusal_stops r.refusal.tunnel r.o h bytes r.read m plain said))
@@ -461,7 +461,7 @@ module _ (codecs : Codecs) where
 
   -- whatever it is, it says something that is written by the rules, or nothing
   pub peer_says : (accs : Accounts) (n : ℕ) (e : End) (sender : Option Sender) (ev : Event) → Within accs n e sender ev → (peer : ℕ) (h : Header)
-      (bytes : List ℕ) → ev ≡ Datagram peer bytes → header_of bytes ≡ Ok h → h.control ≡ true → PeerSays h bytes ⊎ (body_of h bytes ≡ [])
+      (bytes : List ℕ) → ev ≡ Datagram peer bytes → header_of bytes ≡ Ok h → h.control ≡ true → PeerSays h bytes ⊎ (body_of bytes h ≡ [])
   peer_says accs n e sender ev within peer h bytes is reads control = ⊎_elim
       (λ (f : FromPeer accs n e sender ev within.comes peer h bytes).
       let b = accs f.packet.from f.o.tunnel in
@@ -480,7 +480,7 @@ pub record IsHeard (ev : Event) (c : Control) (h : Header) (bytes : List ℕ) : 
   pub is : ev ≡ Datagram c.peer bytes
   pub read : header_of bytes ≡ Ok h
   pub control : h.control ≡ true
-  pub tunnel : IsFor h (body_of h bytes) c
+  pub tunnel : IsFor h (body_of bytes h) c
 
 pub heard_to : (ev : Event) (c : Control) (k : Came) (to : ComesTo ev c k) → IsHeard ev c k.header to.came.bytes
 heard_to ev c k to = record {
@@ -491,11 +491,11 @@ heard_to ev c k to = record {
 }
 
 -- what it says is said in the datagram
-pub said_in : (ev : Event) (k : Came) (came : CameIn ev k) (m : Message) → message_in k.body ≡ Ok m → message_in (body_of k.header came.bytes) ≡ Ok m
+pub said_in : (ev : Event) (k : Came) (came : CameIn ev k) (m : Message) → message_in k.body ≡ Ok m → message_in (body_of came.bytes k.header) ≡ Ok m
 said_in ev k came m said = ap message_in (sym came.body_is) ∙ said
 
 -- and where it says something there, it does here
-pub some_in : (ev : Event) (k : Came) (came : CameIn ev k) → (length k.body ≡ 0 → ⊥) → length (body_of k.header came.bytes) ≡ 0 → ⊥
+pub some_in : (ev : Event) (k : Came) (came : CameIn ev k) → (length k.body ≡ 0 → ⊥) → length (body_of came.bytes k.header) ≡ 0 → ⊥
 some_in ev k came some none = some (ap length came.body_is ∙ none)
 
 -- it is a control message of a tunnel of the peer's
@@ -528,7 +528,7 @@ module _ (codecs : Codecs) where
   -- how the tunnel and the packet's sender are linked
   link_of : (accs : Accounts) (n i : ℕ) (t : Tunnel) (o : ControlOrigin) (h : Header) (bytes : List ℕ) → ((m j : ℕ) → AccountOk accs m j (accs m j))
       → LiveOk accs n i (accs n i) t → IsMade (sender_in accs n i o) → (sender_in accs n i o).peer ≡ n → CopyRead (sender_in accs n i o) o h bytes
-      → IsFor h (body_of h bytes) t.control → Linked accs n i o
+      → IsFor h (body_of bytes h) t.control → Linked accs n i o
   link_of accs n i t o h bytes all live made peer read is_for =
       let here = live_made accs n i (accs n i) t live in
       let some = (all n i).some here in
@@ -541,19 +541,19 @@ module _ (codecs : Codecs) where
       (λ (q : (h.tunnel ≡ 0 → ⊥) × (h.tunnel ≡ b.remote)). link_named accs n i o all some made (sym q.1 ∙ k ∙ local) peer)
       read.tunnel)
       (λ other. ⊎_elim
-      (λ (k : IsAgain h (body_of h bytes) t.control).
+      (λ (k : IsAgain h (body_of bytes h) t.control).
       let how : IsLost b ⊎ (o.nr ≡ 0) = ⊎_elim (λ (lost : IsLost b). inl lost) (λ (q : (o.nr ≡ 0) × (o.empty ≡ false → o.ns ≡ 0)). inr q.0)
       (unnamed b o h.tunnel read.tunnel k.none) in
       ⊎_elim
       (λ (q : IsLetterRead b o h bytes).
-      let asks = read_opens q.letter.message (body_of h bytes) q.reads t.control.remote k.opens in
+      let asks = read_opens q.letter.message (body_of bytes h) q.reads t.control.remote k.opens in
       link_again accs n i o all here made q.letter asks.0 q.there asks.1 (sym live.remote ∙ asks.2) how)
       (λ (q : IsNoneRead o h bytes). absurd (empty_opens_none t.control.remote (let s = k.opens in rw q.body at s)))
       read.says)
-      (λ (k : IsStop h (body_of h bytes) t.control).
+      (λ (k : IsStop h (body_of bytes h) t.control).
       ⊎_elim
       (λ (q : IsLetterRead b o h bytes).
-      let tells = read_stops q.letter.message (body_of h bytes) q.reads t.control.remote k.stops in
+      let tells = read_stops q.letter.message (body_of bytes h) q.reads t.control.remote k.stops in
       let how : IsLost b ⊎ ((o.nr ≡ 0) × (o.ns ≡ 0)) = ⊎_elim (λ (lost : IsLost b). inl lost)
       (λ (z : (o.nr ≡ 0) × (o.empty ≡ false → o.ns ≡ 0)). inr (z.0, z.1 q.some))
       (unnamed b o h.tunnel read.tunnel k.none) in
@@ -600,8 +600,8 @@ module _ (codecs : Codecs) where
       let named : r.tunnel ≡ i = ⊎_elim
       (λ (k : h.tunnel ≡ t.control.local). sym tells ∙ k ∙ live.local)
       (λ other. ⊎_elim
-      (λ (k : IsAgain h (body_of h bytes) t.control). let z = k.none in absurd (omega arith))
-      (λ (k : IsStop h (body_of h bytes) t.control). let z = k.none in absurd (omega arith))
+      (λ (k : IsAgain h (body_of bytes h) t.control). let z = k.none in absurd (omega arith))
+      (λ (k : IsStop h (body_of bytes h) t.control). let z = k.none in absurd (omega arith))
       other)
       hears.tunnel in
       let it : accs p.to r.tunnel ≡ accs n i = ap₂ accs f.to named in
@@ -629,7 +629,7 @@ module _ (codecs : Codecs) where
   -- where it stops no tunnel, it is a copy
   pub heard_said : (accs : Accounts) (n : ℕ) (e : End) (sender : Option Sender) (ev : Event) (within : Within accs n e sender ev) (i : ℕ) (t : Tunnel)
       → at e.tunnels i ≡ Some t → (h : Header) (bytes : List ℕ) → IsHeard ev t.control h bytes → (m : Message) → IsNoStop m
-      → message_in (body_of h bytes) ≡ Ok m → Heard accs n e sender ev within.comes i t h bytes
+      → message_in (body_of bytes h) ≡ Ok m → Heard accs n e sender ev within.comes i t h bytes
   heard_said accs n e sender ev within i t there h bytes hears m plain said = ⊎_elim
       (λ (k : Heard accs n e sender ev within.comes i t h bytes). k)
       (λ (k : HeardRefusal accs n e sender ev within.comes i t h bytes). absurd (refusal_stops k.tunnel k.o h bytes k.read m plain said))

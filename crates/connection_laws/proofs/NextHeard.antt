@@ -13,7 +13,8 @@ use Rattle.recv_window.specs.declared.Class.TheVariants.{Next}
 use Rattle.recv_window.specs.Window.{class_of, ClassIsTrue}
 use Rattle.end_model.specs.declared.event.Event.{Event}
 use Rattle.end_model.specs.declared.out.ControlOrigin.{ControlOrigin}
-use Rattle.end_model.specs.Reading.{body_of, message_in}
+use Rattle.l2tp_header.specs.Reading.{body_of}
+use Rattle.end_model.specs.Reading.{message_in}
 use Rattle.end_model.specs.Tunnels.{Tunnel}
 use Rattle.end_model.specs.End.{End}
 use Rattle.world_model.specs.World.{Sender}
@@ -138,7 +139,7 @@ pub record HeardNext (accs : Accounts) (n i : ℕ) (o : ControlOrigin) (h : Head
   pub there : slice_get (sender_in accs n i o).given (length (accs n i).taken) ≡ Some letter
   pub number : o.ns ≡ length (accs n i).taken
   pub session : h.session ≡ letter.session
-  pub reads : IsReadAs letter.message (body_of h bytes)
+  pub reads : IsReadAs letter.message (body_of bytes h)
   pub spelled : IsSpelled letter
   pub of : TakesOf accs n i o letter
 
@@ -390,6 +391,6 @@ said_so codecs classes accs n e sender ev within i t there session m plain k =
     record {
       heard = from;
       next = next;
-      message = read_alike next.letter.message (body_of h bytes) next.reads m said;
+      message = read_alike next.letter.message (body_of bytes h) next.reads m said;
       session_is = sym next.session ∙ k.says.session_is;
     }

@@ -38,7 +38,7 @@ use Rattle.step_laws.specs.Letters.{Letter}
 use Rattle.call_link.specs.Link.{new_link}
 use Rattle.step_laws.specs.Moves.{HearsNext, heard_so, with_tunnel, with_letter_as}
 use Rattle.l2tp_header.specs.declared.header.Header.{Header}
-use Rattle.end_model.specs.Reading.{body_of}
+use Rattle.l2tp_header.specs.Reading.{body_of}
 use Rattle.frame_laws.specs.Codecs.{Codecs}
 use Rattle.frame_laws.specs.Plain.{AreAlike}
 use Rattle.frame_laws.specs.Written.{IsWritten}
@@ -163,7 +163,7 @@ module _ (codecs : Codecs) (classes : ClassIsTrue) (accs : Accounts) (n : ℕ) (
   pub said_written : IsNoStop m → IsWritten m
   said_written no_stop =
       let s = said_so codecs classes accs n e sender ev within i t there session m no_stop k in
-      read_written s.next.letter.message (body_of k.letter.header k.next.comes.came.bytes) s.next.reads m
+      read_written s.next.letter.message (body_of k.next.comes.came.bytes k.letter.header) s.next.reads m
       (said_in ev k.letter k.next.comes.came m k.says.said)
 
   -- it is a letter of the partner that was learned

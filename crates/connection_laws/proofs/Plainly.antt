@@ -17,7 +17,8 @@ use Rattle.end_model.specs.declared.moves.ClosedBy.{ClosedBy}
 use Rattle.end_model.specs.declared.moves.TookPlain.{TookPlain}
 use Rattle.end_model.specs.declared.moves.Place.{Place}
 use Rattle.end_model.specs.declared.moves.Move.TheVariants as move
-use Rattle.end_model.specs.Reading.{body_of, message_in, TunnelFault, tunnel_fault_in}
+use Rattle.l2tp_header.specs.Reading.{body_of}
+use Rattle.end_model.specs.Reading.{message_in, TunnelFault, tunnel_fault_in}
 use Rattle.end_model.specs.Tunnels.{Tunnel}
 use Rattle.end_model.specs.Channels.{counts_taken}
 use Rattle.end_model.specs.End.{End}
@@ -150,16 +151,16 @@ module _ (codecs : Codecs) (classes : ClassIsTrue) (accs : Accounts) (n : ℕ) (
     abbrev bytes : List ℕ
     bytes = h.does.next.comes.came.bytes
 
-    said_there : (q : Message) → message_in (body_of header bytes) ≡ Ok q → message_in h.does.letter.body ≡ Ok q
+    said_there : (q : Message) → message_in (body_of bytes header) ≡ Ok q → message_in h.does.letter.body ≡ Ok q
     said_there q said = ap message_in h.does.next.comes.came.body_is ∙ said
 
     -- it is a letter of a list
     module _ (k : CameCopy accs n e sender ev h.within.comes i t header bytes) where
       -- what is no request is read as it is
-      read_as : (q : Message) → k.next.letter.message ≡ q → IsNoRequest q → message_in (body_of header bytes) ≡ Ok q
+      read_as : (q : Message) → k.next.letter.message ≡ q → IsNoRequest q → message_in (body_of bytes header) ≡ Ok q
       read_as q is plain =
-          read_plainly q (body_of header bytes)
-          (subst (λ (y : Message). IsReadAs y (body_of header bytes)) is k.next.reads) plain
+          read_plainly q (body_of bytes header)
+          (subst (λ (y : Message). IsReadAs y (body_of bytes header)) is k.next.reads) plain
 
       -- an open tunnel takes neither an SCCRP for which it waits so, nor a StopCCN
       no_reply : state_number t.control.state ≡ 1 → (opening : Opening) → k.next.letter.message ≡ Sccrp opening → ⊥
@@ -307,7 +308,7 @@ stop_is_heard codecs classes accs n e x sender moment ev within m c = ⊎_elim
           reaches = reaches;
           letter = k.next.letter;
           there = k.next.there;
-          stops = says_stop (body_of c.letter.header c.takes.next.comes.came.bytes) k.next.letter.message k.next.reads
+          stops = says_stop (body_of c.takes.next.comes.came.bytes c.letter.header) k.next.letter.message k.next.reads
               (subst SaysStop c.takes.next.comes.came.body_is c.says);
         }
 

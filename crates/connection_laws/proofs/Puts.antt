@@ -2,8 +2,7 @@
 use Rattle.std.proofs.Common.{◌≡◌, ◌⊎◌, ℕ, ◌<◌, ◌≤◌, true, List, ◌++◌, Option, Some, Ok}
 use Rattle.id_table.specs.Ids.{at, put}
 use Rattle.l2tp_header.specs.declared.header.Header.{Header}
-use Rattle.l2tp_header.specs.Reading.{header_of}
-use Rattle.end_model.specs.Reading.{body_of}
+use Rattle.l2tp_header.specs.Reading.{header_of, body_of}
 use Rattle.end_model.specs.declared.event.Event.{Event}
 use Rattle.end_model.specs.declared.event.Event.TheVariants.{Datagram, Ring, Frame, Admitted, Payload, Lower, Lcp, Hang, OpenTunnel, DropCall, CloseTunnel, Tick}
 use Rattle.end_model.specs.declared.out.Origin.{Origin}
@@ -42,7 +41,7 @@ StaysJoined ms n i =
 -- the numbers of the packet that comes are near those of the tunnel, if the packet is for it
 abbrev pub NearAt : Accounts → ℕ → ℕ → Tunnel → Packet → List ℕ → Origin → Type 0
 NearAt ms n i t p bytes (origin.Control o) =
-    (h : Header) → t.control.peer ≡ address_of p.from → header_of bytes ≡ Ok h → IsFor h (body_of h bytes) t.control → IsNear (ms n i) t o
+    (h : Header) → t.control.peer ≡ address_of p.from → header_of bytes ≡ Ok h → IsFor h (body_of bytes h) t.control → IsNear (ms n i) t o
 NearAt ms n i t p bytes (origin.Data session) = Unit {0}
 
 abbrev pub ComesNear : (accs : Accounts) (n : ℕ) (e : End) (sender : Option Sender) (ev : Event) → Comes accs n e sender ev

@@ -6,9 +6,9 @@ use Rattle.std.specs.Prelude.{◌==◌, ◌&&◌}
 use Rattle.std.specs.List.{find}
 use Rattle.id_table.specs.Ids.{at, is_at-same, ids_of}
 use Rattle.l2tp_header.specs.declared.header.Header.{Header}
-use Rattle.l2tp_header.specs.Reading.{header_of}
+use Rattle.l2tp_header.specs.Reading.{header_of, body_of}
 use Rattle.end_model.specs.declared.event.Addressee.TheVariants.{Opens, Stops, Main}
-use Rattle.end_model.specs.Reading.{body_of, at_zero, at_tunnel}
+use Rattle.end_model.specs.Reading.{at_zero, at_tunnel}
 use Rattle.end_model.specs.Tunnels.{Tunnel}
 use Rattle.end_model.specs.End.{End, is_known, known_as, opens_once, addressed, main_of, reached_by, reached_plain}
 use Rattle.step_laws.specs.Letters.{Among}
@@ -117,28 +117,28 @@ unfolding addressed opens_once
 stop_main e peer h body i r none stops known = rw (none, stops, known) refl
 
 main_reached : (e : End) (peer : ℕ) (bytes : List ℕ) (h : Header) (i : ℕ) (t : Tunnel) → at e.tunnels i ≡ Some t → header_of bytes ≡ Ok h → h.control ≡ true
-    → addressed e peer h (body_of h bytes) ≡ Main i → reached_plain e peer bytes ≡ Some t.control
+    → addressed e peer h (body_of bytes h) ≡ Main i → reached_plain e peer bytes ≡ Some t.control
 unfolding reached_plain reached_by
 main_reached e peer bytes h i t there read control main = rw read
-    (ap (λ b. cond b (main_of e (addressed e peer h (body_of h bytes))) None) control ∙ (ap (λ a. main_of e a) main ∙ main_there e i t there))
+    (ap (λ b. cond b (main_of e (addressed e peer h (body_of bytes h))) None) control ∙ (ap (λ a. main_of e a) main ∙ main_there e i t there))
 
 -- a control message that is for a live tunnel, and from its peer, reaches it
 pub is_reached : (accs : Accounts) (n : ℕ) (e : End) → EndOk accs n e → (i : ℕ) (t : Tunnel) → at e.tunnels i ≡ Some t → (i ≡ 0 → ⊥)
     → (bytes : List ℕ) (h : Header) → header_of bytes ≡ Ok h → h.control ≡ true
-    → ((r : ℕ) → at_zero (body_of h bytes) ≡ Opens r → r ≡ 0 → ⊥) → ((r : ℕ) → at_zero (body_of h bytes) ≡ Stops r → r ≡ 0 → ⊥)
-    → IsFor h (body_of h bytes) t.control → reached_plain e t.control.peer bytes ≡ Some t.control
+    → ((r : ℕ) → at_zero (body_of bytes h) ≡ Opens r → r ≡ 0 → ⊥) → ((r : ℕ) → at_zero (body_of bytes h) ≡ Stops r → r ≡ 0 → ⊥)
+    → IsFor h (body_of bytes h) t.control → reached_plain e t.control.peer bytes ≡ Some t.control
 is_reached accs n e ok i t there some bytes h read control opens stops is = ⊎_elim
     (λ (named : h.tunnel ≡ t.control.local).
     main_reached e t.control.peer bytes h i t there read control
-    (named_main e h (body_of h bytes) i t (named ∙ (ok.live i t there).local) some there))
+    (named_main e h (body_of bytes h) i t (named ∙ (ok.live i t there).local) some there))
     (λ other. ⊎_elim
-    (λ (again : IsAgain h (body_of h bytes) t.control).
+    (λ (again : IsAgain h (body_of bytes h) t.control).
     main_reached e t.control.peer bytes h i t there read control
-    (again_main e t.control.peer h (body_of h bytes) i t.control.remote again.none again.opens
+    (again_main e t.control.peer h (body_of bytes h) i t.control.remote again.none again.opens
     (known_here accs n e ok i t there (opens t.control.remote again.opens))))
-    (λ (stop : IsStop h (body_of h bytes) t.control).
+    (λ (stop : IsStop h (body_of bytes h) t.control).
     main_reached e t.control.peer bytes h i t there read control
-    (stop_main e t.control.peer h (body_of h bytes) i t.control.remote stop.none stop.stops
+    (stop_main e t.control.peer h (body_of bytes h) i t.control.remote stop.none stop.stops
     (known_here accs n e ok i t there (stops t.control.remote stop.stops))))
     other)
     is

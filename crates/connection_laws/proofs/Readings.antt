@@ -8,7 +8,7 @@ use Rattle.recv_window.specs.Window.{ClassIsTrue}
 use Rattle.wire_base.specs.declared.why.Why.TheVariants as why
 use Rattle.l2tp_header.specs.declared.header.Header.{Header}
 use Rattle.l2tp_header.specs.declared.header.HeaderError.{HeaderError}
-use Rattle.l2tp_header.specs.Reading.{header_of}
+use Rattle.l2tp_header.specs.Reading.{header_of, body_of}
 use Rattle.end_model.specs.Secrets.{uncovered_datagram}
 use Rattle.end_model.specs.declared.event.Addressee.{Addressee}
 use Rattle.end_model.specs.declared.event.Addressee.TheVariants.{Opens, Stops, Answers, Main, Nobody}
@@ -18,7 +18,7 @@ use Rattle.end_model.specs.declared.out.Origin.TheVariants as origin
 use Rattle.end_model.specs.declared.out.ControlOrigin.{ControlOrigin}
 use Rattle.world_model.specs.declared.packet.Packet.{Packet}
 use Rattle.end_names.specs.Names.{address_of}
-use Rattle.end_model.specs.Reading.{body_of, at_zero, at_tunnel}
+use Rattle.end_model.specs.Reading.{at_zero, at_tunnel}
 use Rattle.end_model.specs.Tunnels.{Tunnel}
 use Rattle.end_model.specs.End.{reached, End, opens_once, addressed, main_of, reached_by, reached_plain}
 use Rattle.world_model.specs.World.{Node, too_old}
@@ -102,9 +102,9 @@ reach_of : (e : End) (peer : ℕ) (bytes : List ℕ) (h : Header) (c : Control) 
 unfolding reached_plain reached_by
 reach_of e peer bytes h c read is =
     let g = rw read at is in
-    let m = main_is e (addressed e peer h (body_of h bytes)) c (is_some_of h.control _ c g) in
+    let m = main_is e (addressed e peer h (body_of bytes h)) c (is_some_of h.control _ c g) in
     let k = mapped (λ (t : Tunnel). t.control) (at e.tunnels m.0) c m.2 in
-    record { id = m.0; tunnel = k.0; there = k.1; same = k.2; named = is_named e peer h (body_of h bytes) m.0 k.0 k.1 m.1 }
+    record { id = m.0; tunnel = k.0; there = k.1; same = k.2; named = is_named e peer h (body_of bytes h) m.0 k.0 k.1 m.1 }
 
 -- ---- what a tunnel and the sender of what reaches it know of each other
 

@@ -4,7 +4,7 @@ use Rattle.std.specs.Prelude.{unwrap_or}
 use Rattle.l2tp_header.specs.declared.header.Header.{Header}
 use Rattle.l2tp_header.specs.Again.{Carries, control_header}
 use Rattle.l2tp_header.specs.Spelling.{control_bytes}
-use Rattle.l2tp_header.specs.Reading.{header_of}
+use Rattle.l2tp_header.specs.Reading.{header_of, body_of}
 use Rattle.avp_codec.specs.Spelling.{spelling}
 use Rattle.control_message.specs.declared.message.Message.{Message}
 use Rattle.control_message.specs.declared.message.Message.TheVariants.{StopCcn}
@@ -12,7 +12,7 @@ use Rattle.control_message.specs.Pairs.{pairs_of}
 use Rattle.recv_window.specs.Window.{on_wire}
 use Rattle.end_model.specs.declared.out.ControlOrigin.{ControlOrigin}
 use Rattle.world_model.specs.declared.packet.Packet.{Packet}
-use Rattle.end_model.specs.Reading.{body_of, message_in, pairs_read, message_read}
+use Rattle.end_model.specs.Reading.{message_in, pairs_read, message_read}
 use Rattle.end_model.specs.Secrets.{uncovered_datagram}
 use Rattle.frame_laws.specs.Codecs.{Codecs}
 use Rattle.frame_laws.specs.Plain.{IsReadAs, AsAMessage, letter_stays}
@@ -33,8 +33,8 @@ pub record RefusalRead (tunnel : ℕ) (o : ControlOrigin) (h : Header) (bytes : 
   pub nr : unwrap_or h.nr 0 ≡ on_wire o.nr
   pub result : ℕ
   pub error : Option ℕ
-  pub said : message_in (body_of h bytes) ≡ Ok (StopCcn 0 result error)
-  pub reads : IsReadAs (StopCcn 0 result error) (body_of h bytes)
+  pub said : message_in (body_of bytes h) ≡ Ok (StopCcn 0 result error)
+  pub reads : IsReadAs (StopCcn 0 result error) (body_of bytes h)
   pub written : IsWritten (StopCcn 0 result error)
 
 module _ (codecs : Codecs) where

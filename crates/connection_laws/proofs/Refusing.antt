@@ -8,7 +8,8 @@ use Rattle.recv_window.specs.Window.{ClassIsTrue}
 use Rattle.end_model.specs.declared.event.Event.{Event}
 use Rattle.end_model.specs.declared.moves.Refused.{Refused}
 use Rattle.end_model.specs.declared.moves.Move.TheVariants as move
-use Rattle.end_model.specs.Reading.{body_of, message_in, CallFault, call_fault_in}
+use Rattle.l2tp_header.specs.Reading.{body_of}
+use Rattle.end_model.specs.Reading.{message_in, CallFault, call_fault_in}
 use Rattle.end_model.specs.Tunnels.{Tunnel}
 use Rattle.end_model.specs.End.{End}
 use Rattle.world_model.specs.World.{Sender, Deed}
@@ -47,7 +48,7 @@ module _ (codecs : Codecs) (classes : ClassIsTrue) (accs : Accounts) (n : ℕ) (
   bytes = o.takes.next.comes.came.bytes
 
   -- as the datagram has it
-  body_is : body ≡ body_of header bytes
+  body_is : body ≡ body_of bytes header
   body_is = o.takes.next.comes.came.body_is
 
   -- the letter that came
@@ -93,7 +94,7 @@ module _ (codecs : Codecs) (classes : ClassIsTrue) (accs : Accounts) (n : ℕ) (
   refuses_faulty k f fault same =
       let q = letter_some (sender_in accs n m.tunnel k.o) k.o header bytes k.read (some_in ev o.letter o.takes.next.comes.came o.takes.next.some) in
       let next = next_heard classes accs n e sender ev h.within m.tunnel t o.there header bytes k q o.takes.next.next in
-      let r = read_faulty next.letter.message (body_of header bytes) next.reads f (ap call_fault_in (sym body_is) ∙ fault) in
+      let r = read_faulty next.letter.message (body_of bytes header) next.reads f (ap call_fault_in (sym body_is) ∙ fault) in
       let own : m.remote ≡ r.0 = same ∙ ap (λ (y : CallFault). unwrap_or y.session 0) r.4 in
       let fits = (subst IsWritten r.3 next.spelled.written).0 in
       letter_takes accs n e sender ev h.within m.tunnel t o.there header bytes k next
@@ -120,7 +121,7 @@ module _ (codecs : Codecs) (classes : ClassIsTrue) (accs : Accounts) (n : ℕ) (
   by_why (IsWrong f fault same result error) = ⊎_elim
       (λ (k : Heard accs n e sender ev h.within.comes m.tunnel t header bytes). refuses_faulty k f fault same)
       (λ (k : HeardRefusal accs n e sender ev h.within.comes m.tunnel t header bytes).
-      let r = read_faulty (StopCcn 0 k.read.result k.read.error) (body_of header bytes) k.read.reads f (ap call_fault_in (sym body_is) ∙ fault) in
+      let r = read_faulty (StopCcn 0 k.read.result k.read.error) (body_of bytes header) k.read.reads f (ap call_fault_in (sym body_is) ∙ fault) in
       let no : StopCcn 0 k.read.result k.read.error ≡ Icrq r.0 r.1 (Some r.2) = r.3 in
       absurd cc)
       (heard codecs accs n e sender ev h.within m.tunnel t o.there header bytes (heard_to ev t.control o.letter o.takes.next.comes))

@@ -35,7 +35,8 @@ use Rattle.connection_laws.proofs.Taking.{all_append, got_push, begins_on, with_
 use Rattle.id_table.specs.Order.{ascends-empty}
 use Rattle.control_message.specs.declared.message.Message.{Message}
 use Rattle.l2tp_header.specs.declared.header.Header.{Header}
-use Rattle.end_model.specs.Reading.{body_of, message_in}
+use Rattle.l2tp_header.specs.Reading.{body_of}
+use Rattle.end_model.specs.Reading.{message_in}
 use Rattle.end_model.specs.declared.moves.Rejected.{Rejected}
 use Rattle.step_laws.specs.Codes.{CodesFit, letter_codes_fit}
 use Rattle.connection_laws.proofs.Connecting.{IsFirst, first_if}
@@ -89,7 +90,7 @@ module _ (codecs : Codecs) (classes : ClassIsTrue) (accs : Accounts) (n : ℕ) (
   header = h.does.letter.header
 
   -- the letter that it takes says what closes it
-  there : (q : Message) → message_in h.does.letter.body ≡ Ok q → message_in (body_of header bytes) ≡ Ok q
+  there : (q : Message) → message_in h.does.letter.body ≡ Ok q → message_in (body_of bytes header) ≡ Ok q
   there q said = said_in ev h.does.letter h.does.takes.next.comes.came q said
 
   -- it is an SCCRP, an SCCRQ or an SCCCN
@@ -98,11 +99,11 @@ module _ (codecs : Codecs) (classes : ClassIsTrue) (accs : Accounts) (n : ℕ) (
       ((opening : Opening) × (q ≡ Sccrp opening) × (m.remote ≡ opening.tunnel))
       ⊎ (((opening : Opening) × (q ≡ Sccrq opening)) ⊎ ((response : Option (List ℕ)) × (q ≡ Scccn response)))
 
-  says_so : (q : Message) × IsOpeningLetter q × (message_in (body_of header bytes) ≡ Ok q)
+  says_so : (q : Message) × IsOpeningLetter q × (message_in (body_of bytes header) ≡ Ok q)
   says_so = by h.does.why
     where
       by : LetterCloses e.config.secret t.control h.does.letter h.does.on m.remote m.result m.error
-          → (q : Message) × IsOpeningLetter q × (message_in (body_of header bytes) ≡ Ok q)
+          → (q : Message) × IsOpeningLetter q × (message_in (body_of bytes header) ≡ Ok q)
       by (BySccrq opening said on none why) = (Sccrq opening, inr (inl (opening, refl)), there (Sccrq opening) said)
       by (BySccrp opening said on tells why) = (Sccrp opening, inl (opening, refl, tells), there (Sccrp opening) said)
       by (ByScccn response said none why) = (Scccn response, inr (inr (response, refl)), there (Scccn response) said)
@@ -154,7 +155,7 @@ module _ (codecs : Codecs) (classes : ClassIsTrue) (accs : Accounts) (n : ℕ) (
       (λ (q : (response : Option (List ℕ)) × (says_so.0 ≡ Scccn response)). subst IsNoRequest (sym q.1) tt)
       rest)
       says_so.1 in
-      sym (read_same said.next.letter.message (body_of header bytes) said.next.reads says_so.0 says_so.2 plain) ∙ first.says
+      sym (read_same said.next.letter.message (body_of bytes header) said.next.reads says_so.0 says_so.2 plain) ∙ first.says
 
   told : m.remote ≡ o.tunnel
   told = ⊎_elim

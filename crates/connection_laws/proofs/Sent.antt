@@ -19,7 +19,7 @@ use Rattle.control_message.specs.declared.message.Message.{Message}
 use Rattle.end_model.specs.Tunnels.{Tunnel}
 use Rattle.end_model.specs.Channels.{letter_as}
 use Rattle.end_model.specs.End.{End}
-use Rattle.world_model.specs.World.{Sender}
+use Rattle.world_model.specs.World.{Sender, packet_from}
 use Rattle.step_laws.specs.Letters.{Letter, letter_at, Carries}
 use Rattle.step_laws.specs.Letters as carries
 use Rattle.connection_laws.specs.Accounts.{Part, Unmade, Opener, Acceptor, Account}
@@ -105,7 +105,7 @@ module _ (ms : Accounts) (n : ℕ) (x : End) (sender : Option Sender) (ev : Even
 
   module _ (peer : ℕ) (peer_is : peer ≡ t.control.peer) (bytes : List ℕ) where
     abbrev packet : Origin → Packet
-    packet o = record { from = n; to = node_of peer; bytes = bytes; origin = o }
+    packet o = packet_from n (node_of peer) bytes o
 
     -- a copy, of whatever it says
     copy : (o : Origin) (c : ControlOrigin) → c.nr ≡ t.control.channel.inbox.taken → Says a c t.control.remote bytes → IsCopy a (packet o) c

@@ -3,7 +3,7 @@ use Rattle.std.proofs.Common.{ap, List, ◌≡◌, ⊎_elim, ℕ, ◌+◌, ◌�
 use Rattle.std.proofs.lemmas.Bool.Decides.{nat_tests}
 use Rattle.id_table.specs.Ids.{at}
 use Rattle.l2tp_header.specs.declared.header.Header.{Header}
-use Rattle.l2tp_header.specs.Reading.{header_of}
+use Rattle.l2tp_header.specs.Reading.{header_of, body_of}
 use Rattle.control_message.specs.declared.message.Message.{Message}
 use Rattle.control_message.specs.declared.message.Message.TheVariants.{Sccrq, StopCcn}
 use Rattle.control_message.specs.declared.message.Opening.{Opening}
@@ -15,7 +15,7 @@ use Rattle.world_model.specs.declared.refusal.Refusal.TheVariants.{HalfSpace}
 use Rattle.end_model.specs.declared.tunnel.Control.{Control}
 use Rattle.end_names.specs.Names.{address_of}
 use Rattle.end_model.specs.declared.event.Addressee.TheVariants.{Opens, Stops}
-use Rattle.end_model.specs.Reading.{body_of, at_zero}
+use Rattle.end_model.specs.Reading.{at_zero}
 use Rattle.end_model.specs.Secrets.{uncovered_datagram}
 use Rattle.end_model.specs.Tunnels.{Tunnel}
 use Rattle.end_model.specs.End.{End, reached_plain}
@@ -73,31 +73,31 @@ module _ (codecs : Codecs) (accs : Accounts) (accounts : (m j : ℕ) → Account
 
   -- an SCCRQ tells an id
   opens_some : (o : ControlOrigin) → IsCopy (accs p.from o.tunnel) p o → (h : Header) → header_of bytes ≡ Ok h
-      → (r : ℕ) → at_zero (body_of h bytes) ≡ Opens r → r ≡ 0 → ⊥
+      → (r : ℕ) → at_zero (body_of bytes h) ≡ Opens r → r ≡ 0 → ⊥
   opens_some o c h read r opens z =
       let b = accs p.from o.tunnel in
       let ok_there = accounts p.from o.tunnel in
       ⊎_elim
       (λ (q : IsLetterRead b o h bytes).
-      let asks = read_opens q.letter.message (body_of h bytes) q.reads r opens in
+      let asks = read_opens q.letter.message (body_of bytes h) q.reads r opens in
       written_opens q.letter.message asks.0 asks.1 q.spelled.written (sym asks.2 ∙ z))
       (λ (q : IsNoneRead o h bytes). empty_opens_none r (let s = opens in rw q.body at s))
       (copy_read codecs b p o secret h ok_there.remote ok_there.spelled c read).says
 
   -- so does a StopCCN that tells one
   stops_some : (o : ControlOrigin) → IsCopy (accs p.from o.tunnel) p o → (h : Header) → header_of bytes ≡ Ok h
-      → (r : ℕ) → at_zero (body_of h bytes) ≡ Stops r → r ≡ 0 → ⊥
+      → (r : ℕ) → at_zero (body_of bytes h) ≡ Stops r → r ≡ 0 → ⊥
   stops_some o c h read r stops =
       let b = accs p.from o.tunnel in
       let ok_there = accounts p.from o.tunnel in
       ⊎_elim
-      (λ (q : IsLetterRead b o h bytes). (read_stops q.letter.message (body_of h bytes) q.reads r stops).some)
+      (λ (q : IsLetterRead b o h bytes). (read_stops q.letter.message (body_of bytes h) q.reads r stops).some)
       (λ (q : IsNoneRead o h bytes). absurd (no_stop codecs r (let s = stops in rw q.body at s)))
       (copy_read codecs b p o secret h ok_there.remote ok_there.spelled c read).says
 
   -- the tunnel that a copy is for is the one that it reaches
   pub copy_reaches : (o : ControlOrigin) → IsCopy (accs p.from o.tunnel) p o → (i : ℕ) (t : Tunnel) (h : Header) → at e.tunnels i ≡ Some t
-      → t.control.peer ≡ address_of p.from → header_of bytes ≡ Ok h → IsFor h (body_of h bytes) t.control → reached_plain e (address_of p.from) bytes ≡ Some t.control
+      → t.control.peer ≡ address_of p.from → header_of bytes ≡ Ok h → IsFor h (body_of bytes h) t.control → reached_plain e (address_of p.from) bytes ≡ Some t.control
   copy_reaches o c i t h there peer read is =
       let tells = copy_tells codecs accs p.from o.tunnel (accs p.from o.tunnel) p o (accounts p.from o.tunnel) c secret h read in
       subst (λ q. reached_plain e q bytes ≡ Some t.control) peer
@@ -106,17 +106,17 @@ module _ (codecs : Codecs) (accs : Accounts) (accounts : (m j : ℕ) → Account
 
   -- so is the one that a StopCCN of no tunnel is for
   refusal_reaches : (o : ControlOrigin) → IsRefusal accs p o → (i : ℕ) (t : Tunnel) (h : Header) → at e.tunnels i ≡ Some t
-      → t.control.peer ≡ address_of p.from → header_of bytes ≡ Ok h → IsFor h (body_of h bytes) t.control → reached_plain e (address_of p.from) bytes ≡ Some t.control
+      → t.control.peer ≡ address_of p.from → header_of bytes ≡ Ok h → IsFor h (body_of bytes h) t.control → reached_plain e (address_of p.from) bytes ≡ Some t.control
   refusal_reaches o r i t h there peer read is =
       let k = refusal_read codecs accs accounts p o r secret h read in
       subst (λ q. reached_plain e q bytes ≡ Some t.control) peer
       (is_reached accs n e ok i t there (live_some accs n i (accs n i) t (accounts n i) (ok.live i t there)) bytes h read k.control
-      (λ q opens z. (let asks = (opens_said (body_of h bytes) (StopCcn 0 k.result k.error) q opens k.said).1 in let no : ⊥ = cc in no))
-      (λ q stops. (stops_by (body_of h bytes) (StopCcn 0 k.result k.error) q k.said stops).some) is)
+      (λ q opens z. (let asks = (opens_said (body_of bytes h) (StopCcn 0 k.result k.error) q opens k.said).1 in let no : ⊥ = cc in no))
+      (λ q stops. (stops_by (body_of bytes h) (StopCcn 0 k.result k.error) q k.said stops).some) is)
 
   near_of : (o : ControlOrigin)
       → ((i : ℕ) (t : Tunnel) (h : Header) → at e.tunnels i ≡ Some t → t.control.peer ≡ address_of p.from → header_of bytes ≡ Ok h
-      → IsFor h (body_of h bytes) t.control → reached_plain e (address_of p.from) bytes ≡ Some t.control)
+      → IsFor h (body_of bytes h) t.control → reached_plain e (address_of p.from) bytes ≡ Some t.control)
       → too_old o (reached_plain e (address_of p.from) bytes) ≡ None → AreNear accs n e p bytes (origin.Control o)
   near_of o reaches young i t h there peer read is =
       let y = is_young o t.control (rw (reaches i t h there peer read is) at young) in

@@ -10,7 +10,7 @@ use Rattle.end_model.specs.declared.moves.FrameSent.{FrameSent}
 use Rattle.end_model.specs.declared.moves.Move.{Move}
 use Rattle.end_model.specs.declared.moves.Move.TheVariants as move
 use Rattle.end_names.specs.declared.role.Role.{Role}
-use Rattle.end_model.specs.Reading.{body_of}
+use Rattle.l2tp_header.specs.Reading.{body_of}
 use Rattle.end_model.specs.Tunnels.{Tunnel}
 use Rattle.end_model.specs.End.{End}
 use Rattle.world_model.specs.World.{World, Sender, Deed, deed_of}
@@ -159,7 +159,7 @@ module _ (moves_keep : MovesKeep) (closings : ClosingsAreKnown) (declines : Decl
         others = λ i j other. all i j;
         openings = λ q same.
             let did : Declines e ev q y = subst (λ (q : Move). Does e moment ev q y) same does in
-            was_opening accs n d q (is ∙ same) (declines accs n e y sender ev within q did) (decline_codes_fit e (body_of did.header did.bytes) q did.why);
+            was_opening accs n d q (is ∙ same) (declines accs n e y sender ev within q did) (decline_codes_fit e (body_of did.bytes did.header) q did.why);
       })
       (declines_or_not m)
 

@@ -4,11 +4,10 @@ use Rattle.std.specs.List.{AllByRecursion}
 use Rattle.l2tp_header.specs.declared.header.Header.{Header}
 use Rattle.l2tp_header.specs.Again.{control_header}
 use Rattle.l2tp_header.specs.Spelling.{control_bytes}
-use Rattle.l2tp_header.specs.Reading.{header_of}
+use Rattle.l2tp_header.specs.Reading.{header_of, body_of}
 use Rattle.recv_window.specs.Window.{on_wire}
 use Rattle.end_model.specs.declared.out.ControlOrigin.{ControlOrigin}
 use Rattle.world_model.specs.declared.packet.Packet.{Packet}
-use Rattle.end_model.specs.Reading.{body_of}
 use Rattle.end_model.specs.Secrets.{uncovered_datagram}
 use Rattle.frame_laws.specs.Codecs.{Codecs}
 use Rattle.connection_laws.specs.Accounts.{Account}
@@ -32,7 +31,7 @@ module _ (codecs : Codecs) where
     pub session_is : h.session ≡ session
     pub ns_is : h.ns ≡ Some (on_wire ns)
     pub nr_is : h.nr ≡ Some (on_wire nr)
-    pub body : body_of h bytes ≡ pairs
+    pub body : body_of bytes h ≡ pairs
 
   control_read : (tunnel session ns nr : ℕ) (pairs : List ℕ) (h : Header) → tunnel < 65536 → session < 65536 → length pairs ≤ 65523
       → header_of (control_bytes tunnel session (on_wire ns) (on_wire nr) pairs) ≡ Ok h

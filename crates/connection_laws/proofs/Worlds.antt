@@ -18,7 +18,7 @@ use Rattle.world_model.specs.declared.packet.Packet.{Packet}
 use Rattle.end_names.specs.Names.{node_of}
 use Rattle.end_model.specs.Tunnels.{Tunnel}
 use Rattle.end_model.specs.End.{End, Stepped, plain_step}
-use Rattle.world_model.specs.World.{World, Node, Checkpoint, Sender, Deed, birth_in, birth_of, deed_of, with_node, with_birth_at, with_birth, is_born, moved, moved_all, sent, shown, shown_all, given, after_step}
+use Rattle.world_model.specs.World.{World, Node, Checkpoint, Sender, Deed, birth_in, birth_of, deed_of, with_node, with_birth_at, with_birth, is_born, moved, moved_all, packet_from, sent, shown, shown_all, given, after_step}
 use Rattle.step_laws.specs.Letters.{Carries}
 use Rattle.step_laws.specs.Moves.{Chain}
 use Rattle.step_laws.specs.Steps.{AreKept, InChain, IsSent, IsDecline, IsOfMoves, IsChain, StepsAreChains}
@@ -165,7 +165,7 @@ shown_births n os w = record {
 
 -- what is to hold of the packets that are sent
 abbrev SendOk : (Packet → Type 0) → ℕ → Out → Type 0
-SendOk P n (Send peer bytes origin) = P (record { from = n; to = node_of peer; bytes = bytes; origin = origin })
+SendOk P n (Send peer bytes origin) = P (packet_from n (node_of peer) bytes origin)
 SendOk P n (Up session side frame) = Unit {0}
 SendOk P n (Gone session) = Unit {0}
 SendOk P n (Drop x) = Unit {0}
@@ -329,9 +329,9 @@ module _ (laws : Laws) (number : ℕ) (w : World) (accs : Accounts) (holds : Hol
 
     -- what is sent there stays so
     sent_ok : (peer id : ℕ) (tunnel : Tunnel) → at amid.end.tunnels id ≡ Some tunnel → peer ≡ tunnel.control.peer → (bytes : List ℕ) (o : Origin)
-        → Carries tunnel amid.made bytes o → PacketOk ms (record { from = n; to = node_of peer; bytes = bytes; origin = o })
+        → Carries tunnel amid.made bytes o → PacketOk ms (packet_from n (node_of peer) bytes o)
     sent_ok peer id tunnel there peer_is bytes o carries =
-        packet_later so_far ms grown_on (record { from = n; to = node_of peer; bytes = bytes; origin = o })
+        packet_later so_far ms grown_on (packet_from n (node_of peer) bytes o)
         (carries_ok so_far n amid.end sender ev (most + 16384) made_ran.kept.within made_ran.kept.given (omega (arith, room)) id tunnel there peer peer_is bytes
         amid.made made_ran.frames o carries)
 

@@ -5,7 +5,7 @@ use Rattle.id_table.specs.Ids.{at}
 use Rattle.id_table.specs.Order.{Ascends}
 use Rattle.wire_base.specs.declared.letter.Letter as wire
 use Rattle.l2tp_header.specs.declared.header.Header.{Header}
-use Rattle.l2tp_header.specs.Reading.{header_of}
+use Rattle.l2tp_header.specs.Reading.{header_of, body_of}
 use Rattle.l2tp_header.specs.Grammar.{FitsWord}
 use Rattle.l2tp_header.specs.Spelling.{control_bytes, data_bytes}
 use Rattle.avp_codec.specs.Spelling.{spelling}
@@ -15,7 +15,6 @@ use Rattle.control_message.specs.declared.message.Opening.{Opening}
 use Rattle.control_message.specs.Pairs.{pairs_of}
 use Rattle.recv_window.specs.Window.{on_wire}
 use Rattle.tunnel_fsm.specs.Rows.{state_number}
-use Rattle.end_model.specs.Reading.{body_of}
 use Rattle.end_model.specs.declared.event.Event.{Event}
 use Rattle.end_model.specs.declared.event.Event.TheVariants.{Datagram, Ring, Frame, Admitted, Payload, Lower, Lcp, Hang, OpenTunnel, DropCall, CloseTunnel, Tick}
 use Rattle.end_model.specs.declared.moves.Move.{Move}
@@ -405,7 +404,7 @@ pub record IsNear (a : Account) (t : Tunnel) (o : ControlOrigin) : Type 0 where
 abbrev pub AreNear : Accounts → ℕ → End → Packet → List ℕ → Origin → Type 0
 AreNear accs n e p bytes (origin.Control o) =
     (i : ℕ) (t : Tunnel) (h : Header) → at e.tunnels i ≡ Some t → t.control.peer ≡ address_of p.from → header_of bytes ≡ Ok h
-    → IsFor h (body_of h bytes) t.control → IsNear (accs n i) t o
+    → IsFor h (body_of bytes h) t.control → IsNear (accs n i) t o
 AreNear accs n e p bytes (origin.Data session) = Unit {0}
 
 -- the datagram of a step is a packet, as the end reads it with some secret, or with none

@@ -18,7 +18,7 @@ use Rattle.id_source.specs.Spaces.{space_from}
 use Rattle.end_model.specs.Starting.{starts, all_gone, all_cleared}
 use Rattle.end_model.specs.Contents.{contents_of}
 use Rattle.end_model.specs.Openings.{fresh}
-use Rattle.end_model.specs.Tunnels.{Tunnel, Turn, Drawing, Env, turn_of}
+use Rattle.end_model.specs.Tunnels.{Tunnel, Turn, Drawing, Env, turn_of, new_tunnel}
 use Rattle.end_model.specs.Turn.{with_turn}
 use Rattle.end_model.specs.Events.{turns}
 use Rattle.end_model.specs.End.{End, drawing_of, env_of, gives_only, after_turn, after_new, in_main, in_new, Turned, tick_of, ticks_of, end_after_all, after_all, ticks_all}
@@ -74,7 +74,7 @@ main_at v start drew ev i (Some t) =
 
 -- the same of an end that was lent, and is seen as it was before
 module _ (v w : End) (same : v ≡ w) (start : Env) where
-  pub first_records : start ≡ env_of w start.on.moment start.on.block → (ev : Event) (peer : ℕ) (t : Tunnel) → t ≡ record { control = fresh peer start.on.moment; letters = []; calls = [] }
+  pub first_records : start ≡ env_of w start.on.moment start.on.block → (ev : Event) (peer : ℕ) (t : Tunnel) → t ≡ new_tunnel (fresh peer start.on.moment)
       → contents_of w (in_new w start ev peer) ≡ first_leaves start (turn_at v.role v.config ev start t)
   unfolding in_new
   first_records begun ev peer t idle =

@@ -3,7 +3,7 @@ use Rattle.std.proofs.Common.{◌≡◌, ℕ, true, false, List, Result, Ok, sym
 use Rattle.wire_base.specs.declared.why.Why.{Why}
 use Rattle.wire_base.specs.declared.letter.Letter.{Letter}
 use Rattle.l2tp_header.specs.declared.header.Header.{Header}
-use Rattle.l2tp_header.specs.Reading.{header_of}
+use Rattle.l2tp_header.specs.Reading.{header_of, body_of}
 use Rattle.control_message.specs.declared.message.Message.{Message}
 use Rattle.tunnel_fsm.specs.declared.table.TunnelState.TheVariants.{Idle}
 use Rattle.end_names.specs.declared.role.Role.{Role}
@@ -13,13 +13,13 @@ use Rattle.end_model.specs.declared.tunnel.Call.{Call}
 use Rattle.end_model.specs.declared.tunnel.Config.{Config}
 use Rattle.end_model.specs.Tunnels.{Turn}
 use Rattle.end_model.specs.Sending.{settles}
-use Rattle.end_model.specs.Reading.{body_of, message_in}
+use Rattle.end_model.specs.Reading.{message_in}
 use Rattle.end_model.specs.Hearing.{first_said, hears_control, hears_datagram}
 use Rattle.end_model.specs.Events.{turns}
 use Rattle.end_core.specs.Saying.{SaysThis}
 
 by_header : (role : Role) (c : Config) (letters : List Letter) (calls : List (ℕ × Call)) (peer : ℕ) (bytes : List ℕ) (h : Header) (t : Turn) → header_of bytes ≡ Ok h → h.control ≡ true → t.control.state ≡ Idle
-    → turns role c letters calls (Datagram peer bytes) t ≡ settles false letters (first_said role c (message_in (body_of h bytes)) t)
+    → turns role c letters calls (Datagram peer bytes) t ≡ settles false letters (first_said role c (message_in (body_of bytes h)) t)
 unfolding turns hears_datagram hears_control
 by_header role c letters calls peer bytes h t read control idle = rw (read, control, idle) refl
 

@@ -9,7 +9,7 @@ use Rattle.end_model.specs.declared.tunnel.Control.{Control}
 use Rattle.end_model.specs.declared.event.Event.{Event}
 use Rattle.end_model.specs.declared.out.Out.{Out}
 use Rattle.end_model.specs.declared.moves.Move.{Move}
-use Rattle.end_model.specs.Tunnels.{Tunnel, Env, Turn, turn_of}
+use Rattle.end_model.specs.Tunnels.{Tunnel, Env, Turn, turn_of, new_tunnel}
 use Rattle.end_model.specs.Turn.{with_turn}
 use Rattle.end_model.specs.Events.{turns}
 use Rattle.end_model.specs.Openings.{fresh}
@@ -74,7 +74,7 @@ module _ (v : End) (start : Env) (none : start.changes ≡ []) (ev : Event) (i :
   same_turn : (start.outputs ≡ []) × (start.moves ≡ []) → after_turn v i t.letters t.calls r ≡ s
   same_turn silent = ap (λ (x : Turn). after_turn v i t.letters t.calls x) is ∙ sym (behind_none start _ silent) ∙ turn_is
 
-  pub new_is : (start.outputs ≡ []) × (start.moves ≡ []) → (peer : ℕ) → t ≡ record { control = fresh peer start.on.moment; letters = []; calls = [] } → p.control.local ≡ i → (i ≡ 0 → ⊥) → in_new v start ev peer ≡ s
+  pub new_is : (start.outputs ≡ []) × (start.moves ≡ []) → (peer : ℕ) → t ≡ new_tunnel (fresh peer start.on.moment) → p.control.local ≡ i → (i ≡ 0 → ⊥) → in_new v start ev peer ≡ s
   unfolding in_new
   new_is begun peer idle local some =
       let same : r ≡ turns v.role v.config [] [] ev (turn_of (fresh peer start.on.moment) start) = is ∙ ap (λ (u : Tunnel). turned v start ev u) idle in
@@ -109,7 +109,7 @@ not_made v start env ev peer r os ms none is given zero a b =
     rw (← is, eq-eqb r.control.local 0 zero, a, b, given, none.0, none.1) refl
 
 -- the first step of a tunnel in this environment
-module _ (v : End) (start env : Env) (begun : start ≡ env_of v start.on.moment start.on.block) (ev : Event) (peer : ℕ) (t : Tunnel) (idle : t ≡ record { control = fresh peer start.on.moment; letters = []; calls = [] }) (p : Plan) (planned : IsTurn p (turned v start ev t)) (given : env ≡ with_turn (turned v start ev t) start) where
+module _ (v : End) (start env : Env) (begun : start ≡ env_of v start.on.moment start.on.block) (ev : Event) (peer : ℕ) (t : Tunnel) (idle : t ≡ new_tunnel (fresh peer start.on.moment)) (p : Plan) (planned : IsTurn p (turned v start ev t)) (given : env ≡ with_turn (turned v start ev t) start) where
   silent : (start.outputs ≡ []) × (start.moves ≡ [])
   silent = (ap (λ (x : Env). x.outputs) begun, ap (λ (x : Env). x.moves) begun)
 

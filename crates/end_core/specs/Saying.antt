@@ -2,11 +2,11 @@
 use Rattle.std.specs.Prelude.{⊤, ◌≡◌, ℕ, true, List, Option, Some, None, Result, Ok}
 use Rattle.wire_base.specs.declared.why.Why.{Why}
 use Rattle.l2tp_header.specs.declared.header.Header.{Header}
-use Rattle.l2tp_header.specs.Reading.{header_of}
+use Rattle.l2tp_header.specs.Reading.{header_of, body_of}
 use Rattle.control_message.specs.declared.message.Message.{Message}
 use Rattle.end_model.specs.declared.event.Event.{Event}
 use Rattle.end_model.specs.declared.event.Event.TheVariants.{Datagram}
-use Rattle.end_model.specs.Reading.{body_of, message_in}
+use Rattle.end_model.specs.Reading.{message_in}
 
 -- the event is a control message with this body
 pub record IsControlEvent (body : List ℕ) (ev : Event) : Type 0 where
@@ -16,7 +16,7 @@ pub record IsControlEvent (body : List ℕ) (ev : Event) : Type 0 where
   pub event : ev ≡ Datagram peer bytes
   pub read : header_of bytes ≡ Ok header
   pub control : header.control ≡ true
-  pub same : body ≡ body_of header bytes
+  pub same : body ≡ body_of bytes header
 
 -- it says this
 pub record SaysThis (said : Result Message Why) (ev : Event) : Type 0 where

@@ -11,7 +11,7 @@ use Rattle.wire_base.specs.declared.letter.Side.TheVariants as side
 use Rattle.wire_base.specs.declared.cause.Cause.TheVariants as cause
 use Rattle.l2tp_header.specs.declared.header.Header.{Header}
 use Rattle.l2tp_header.specs.declared.header.HeaderError.{HeaderError}
-use Rattle.l2tp_header.specs.Reading.{header_of}
+use Rattle.l2tp_header.specs.Reading.{header_of, body_of}
 use Rattle.tunnel_fsm.specs.declared.table.TunnelState.{TunnelState}
 use Rattle.tunnel_fsm.specs.declared.table.TunnelState.TheVariants.{WaitCtlReply, Established}
 use Rattle.tunnel_fsm.specs.Rows.{state_number}
@@ -35,7 +35,7 @@ use Rattle.session_looks.specs.Frames.{Carried, Upward, Dropped, carry_look, fra
 use Rattle.end_model.specs.Calls.{is_lac}
 use Rattle.end_model.specs.declared.event.Addressee.{Addressee}
 use Rattle.end_model.specs.declared.event.Addressee.TheVariants.{Opens, Stops, Answers, Main, Nobody}
-use Rattle.end_model.specs.Reading.{body_of, message_in, TunnelFault, tunnel_fault_in, at_zero, at_tunnel}
+use Rattle.end_model.specs.Reading.{message_in, TunnelFault, tunnel_fault_in, at_zero, at_tunnel}
 use Rattle.end_model.specs.Secrets.{lacks_secret, uncovered_datagram, uncovered_event}
 use Rattle.end_model.specs.Tunnels.{Tunnel, Drawing, Env, Turn, turn_of}
 use Rattle.end_model.specs.Reasons.{Reason, out_of_order, other_version, no_recovery, no_secret, fault_reason, no_tunnel, no_id}
@@ -52,6 +52,10 @@ use Rattle.control_message.specs.declared.message.Message.TheVariants.{Sccrq, St
 use Rattle.control_message.specs.declared.message.Opening.{Opening}
 use Rattle.control_message.specs.Pairs.{pairs_of}
 use Rattle.wire_base.specs.declared.why.Why.{Why}
+
+-- what an end is told: its number and address, the address of its LNS, its secret, and whether calling numbers are hidden by that
+abbrev pub new_config : ℕ → ℕ → ℕ → Option (List ℕ) → Bool → Config
+new_config number address lns secret hide = record { number = number; address = address; lns = lns; secret = secret; hide = hide }
 
 pub record End : Type 0 where
   pub role : Role
@@ -241,7 +245,7 @@ main_of e a = None
 
 unfoldable pub reached_by : End → ℕ → List ℕ → Result Header HeaderError → Option Control
 reached_by e peer bytes (Err x) = None
-reached_by e peer bytes (Ok h) = if h.control then main_of e (addressed e peer h (body_of h bytes)) else None
+reached_by e peer bytes (Ok h) = if h.control then main_of e (addressed e peer h (body_of bytes h)) else None
 
 unfoldable pub reached_plain : End → ℕ → List ℕ → Option Control
 reached_plain e peer bytes = reached_by e peer bytes (header_of bytes)
@@ -366,8 +370,8 @@ hands_up e env peer h body = handed e env h.session (carry_look e.role (look_in 
 unfoldable pub receives : End → Env → ℕ → List ℕ → Result Header HeaderError → Stepped
 receives e env peer bytes (Err x) = gives_only e (Drop (header_why x))
 receives e env peer bytes (Ok h) =
-    if h.control then for_addressee e env (Datagram peer bytes) peer h (body_of h bytes) (addressed e peer h (body_of h bytes))
-    else hands_up e env peer h (body_of h bytes)
+    if h.control then for_addressee e env (Datagram peer bytes) peer h (body_of bytes h) (addressed e peer h (body_of bytes h))
+    else hands_up e env peer h (body_of bytes h)
 
 -- an event of the other kind of end is ignored
 unfoldable pub only_by : Role → End → Stepped → Stepped

@@ -27,7 +27,8 @@ use Rattle.end_model.specs.Messages.{Told, tells_id, told_by, event_by, opening_
 use Rattle.end_model.specs.Moments.{is_closed, is_idle, is_open, is_waiting_reply}
 use Rattle.end_model.specs.Reasons.{Reason, reason, out_of_order, fault_reason}
 use Rattle.session_looks.specs.Frames.{header_why}
-use Rattle.end_model.specs.Reading.{body_of, message_in, CallFault, call_fault_in, TunnelFault, tunnel_fault_in}
+use Rattle.l2tp_header.specs.Reading.{body_of}
+use Rattle.end_model.specs.Reading.{message_in, CallFault, call_fault_in, TunnelFault, tunnel_fault_in}
 use Rattle.end_model.specs.Turn.{drops}
 use Rattle.end_model.specs.Sending.{reads_nr, settles, takes_plain, ignores}
 use Rattle.end_model.specs.Openings.{accepts, connected, confirms}
@@ -141,4 +142,4 @@ hears_control role c letters calls h body t =
 unfoldable pub hears_datagram : Role → Config → List Letter → List (ℕ × Call) → List ℕ → Result Header HeaderError → Turn → Turn
 hears_datagram role c letters calls bytes (Err x) t = drops (header_why x) t
 hears_datagram role c letters calls bytes (Ok h) t =
-    if h.control then hears_control role c letters calls h (body_of h bytes) t else drops why.Session t
+    if h.control then hears_control role c letters calls h (body_of bytes h) t else drops why.Session t

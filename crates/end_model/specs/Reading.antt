@@ -1,5 +1,5 @@
 -- What a datagram says.
-use Rattle.std.specs.Prelude.{ℕ, ◌-◌, ◌==◌, ◌&&◌, not, Bool, true, false, List, take, drop, if◌then◌else◌, Option, Some, None, is_none, unwrap_or, Result, Ok, Err}
+use Rattle.std.specs.Prelude.{ℕ, ◌==◌, ◌&&◌, not, Bool, true, false, List, if◌then◌else◌, Option, Some, None, is_none, unwrap_or, Result, Ok, Err}
 use Rattle.wire_base.specs.declared.why.Why.{Why}
 use Rattle.wire_base.specs.declared.why.Why.TheVariants as why
 use Rattle.wire_base.specs.declared.cause.Cause.{Cause}
@@ -7,7 +7,6 @@ use Rattle.wire_base.specs.declared.cause.Cause.TheVariants as cause
 use Rattle.avp_codec.specs.declared.avp.Avp.{Avp}
 use Rattle.avp_codec.specs.declared.error.AvpError.{AvpError}
 use Rattle.avp_codec.specs.Reading.{avps_of}
-use Rattle.l2tp_header.specs.declared.header.Header.{Header}
 use Rattle.control_message.specs.declared.message.Message.{Message}
 use Rattle.control_message.specs.declared.message.Message.TheVariants.{Sccrq, Sccrp, StopCcn}
 use Rattle.control_message.specs.declared.message.Read.{Read}
@@ -21,10 +20,6 @@ use Rattle.tunnel_fsm.specs.declared.table.TunnelEvent.{TunnelEvent}
 use Rattle.tunnel_fsm.specs.declared.table.TunnelEvent.TheVariants as event
 use Rattle.end_model.specs.declared.event.Addressee.{Addressee}
 use Rattle.end_model.specs.declared.event.Addressee.TheVariants.{Opens, Stops, Answers, Main, Nobody}
-
--- the bytes between the header and the end that it tells
-abbrev pub body_of : Header → List ℕ → List ℕ
-body_of h bytes = take (h.end - h.start) (drop h.start bytes)
 
 -- the message that pairs make, or why it is ignored
 unfoldable pub message_read : Result Read MessageError → Result Message Why

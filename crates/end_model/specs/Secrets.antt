@@ -8,13 +8,12 @@ use Rattle.avp_codec.specs.Reading.{avps_of}
 use Rattle.avp_codec.specs.Spelling.{spelling}
 use Rattle.l2tp_header.specs.declared.header.Header.{Header}
 use Rattle.l2tp_header.specs.declared.header.HeaderError.{HeaderError}
-use Rattle.l2tp_header.specs.Reading.{header_of}
+use Rattle.l2tp_header.specs.Reading.{header_of, body_of}
 use Rattle.l2tp_header.specs.Spelling.{control_bytes}
 use Rattle.tunnel_secret.specs.Response.{response_of, is_response}
 use Rattle.control_message.specs.Uncovering.{uncovered}
 use Rattle.end_model.specs.declared.event.Event.{Event}
 use Rattle.end_model.specs.declared.event.Event.TheVariants.{Datagram, Ring, Frame, Admitted, Payload, Lower, Lcp, Hang, OpenTunnel, DropCall, CloseTunnel, Tick}
-use Rattle.end_model.specs.Reading.{body_of}
 
 -- ---- challenges and responses
 
@@ -63,7 +62,7 @@ uncovered_pairs secret bytes h (Ok avps) =
 
 abbrev pub uncovered_by : List ℕ → List ℕ → Result Header HeaderError → List ℕ
 uncovered_by secret bytes (Err x) = bytes
-uncovered_by secret bytes (Ok h) = if h.control then uncovered_pairs secret bytes h (avps_of (body_of h bytes)) else bytes
+uncovered_by secret bytes (Ok h) = if h.control then uncovered_pairs secret bytes h (avps_of (body_of bytes h)) else bytes
 
 -- a datagram as an end with this secret reads it
 unfoldable pub uncovered_datagram : Option (List ℕ) → List ℕ → List ℕ

@@ -15,6 +15,10 @@ pub record Tunnel : Type 0 where
   -- its calls, by session id
   pub calls : List (ℕ × Call)
 
+-- a tunnel that is new: nothing was given to its channel, and it has no calls
+abbrev pub new_tunnel : Control → Tunnel
+new_tunnel c = record { control = c; letters = []; calls = [] }
+
 -- what a step stands on, which nothing in it changes: its moment, in milliseconds, and its 16 random bytes
 pub record Ground : Type 0 where
   pub moment : ℕ

@@ -1,5 +1,8 @@
 //! What an end is, and what it knows of a call.
 
+ghost use Rattle.std.specs.Prelude.{◌≡◌};
+ghost use Rattle.end_model.specs.End.{new_config};
+
 use call_fsm::{CallEvent, CallState};
 use call_link::Link;
 use control_channel::ChannelNumbers;
@@ -21,6 +24,21 @@ pub struct Config {
     pub secret: Option<Bytes>,
     /// Whether calling numbers are hidden by the secret (RFC 2661 section 4.3).
     pub hide: bool,
+}
+
+impl Config {
+    /// What an end of this number and address is told. At an LNS `lns` is 0.
+    pub fn new(number: u8, address: u32, lns: u32, secret: Option<Bytes>, hide: bool) -> Config
+        ensures { result ≡ new_config number address lns secret hide }
+    {
+        Config {
+            number,
+            address,
+            lns,
+            secret,
+            hide,
+        }
+    }
 }
 
 /// The control part of a tunnel, apart from its calls and its letters.

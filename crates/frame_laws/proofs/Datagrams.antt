@@ -8,7 +8,7 @@ use Rattle.l2tp_header.specs.declared.header.Header.{Header}
 use Rattle.l2tp_header.specs.Again.{Carries, control_header}
 use Rattle.l2tp_header.specs.Grammar.{FitsWord}
 use Rattle.l2tp_header.specs.Spelling.{control_bytes, data_bytes}
-use Rattle.l2tp_header.specs.Reading.{header_of}
+use Rattle.l2tp_header.specs.Reading.{header_of, body_of}
 use Rattle.avp_codec.specs.declared.avp.Avp.{Avp}
 use Rattle.control_message.specs.declared.message.Message.{Message}
 use Rattle.control_message.specs.declared.message.Message.TheVariants.{Sccrq, Sccrp, Scccn, StopCcn, Hello, Ocrq, Ocrp, Occn, Icrq, Icrp, Iccn, Cdn, Wen, Sli, Fsq, Fsr}
@@ -19,7 +19,7 @@ use Rattle.tunnel_fsm.specs.declared.table.TunnelEvent.TheVariants as event
 use Rattle.end_model.specs.declared.event.Addressee.{Addressee}
 use Rattle.end_model.specs.declared.event.Addressee.TheVariants.{Opens, Stops, Answers, Nobody}
 use Rattle.end_model.specs.Channels.{letter_as}
-use Rattle.end_model.specs.Reading.{body_of, message_in, pairs_read, message_read, CallFault, call_fault_in, fault_of_pairs, TunnelFault, tunnel_fault_in, tunnel_fault_of_pairs, closing, at_zero, zero_pairs, zero_read}
+use Rattle.end_model.specs.Reading.{message_in, pairs_read, message_read, CallFault, call_fault_in, fault_of_pairs, TunnelFault, tunnel_fault_in, tunnel_fault_of_pairs, closing, at_zero, zero_pairs, zero_read}
 use Rattle.frame_laws.specs.Codecs.{Codecs}
 use Rattle.frame_laws.specs.Plain.{HidesOk, without_number, AreAlike, IsReadAs, AsAMessage, AsAFault, message_there, no_fault_there, no_tunnel_fault_there, zero_there, number_fault, no_message_there, fault_there, for_its_call, for_no_tunnel, stays_plain, letter_uncovered, frame_stays}
 use Rattle.frame_laws.specs.Past.{Passage}
@@ -131,7 +131,7 @@ module _ (codecs : Codecs) where
   record ControlRead (session : ℕ) (pairs bytes : List ℕ) (h : Header) : Type 0 where
     pub control : h.control ≡ true
     pub session_is : h.session ≡ session
-    pub body : body_of h bytes ≡ pairs
+    pub body : body_of bytes h ≡ pairs
 
   module _ (tunnel session ns nr : ℕ) (t : tunnel < 65536) (s_fits : session < 65536) where
     control_read : (pairs : List ℕ) (h : Header) → length pairs ≤ 65523

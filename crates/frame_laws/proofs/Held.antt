@@ -13,7 +13,7 @@ use Rattle.session_looks.specs.declared.look.Look.{Look}
 use Rattle.session_looks.specs.declared.look.Look.TheVariants.{Unborn, Bound, Established, Dead}
 use Rattle.session_looks.specs.Frames.{Carried, Upward, Dropped, carry_known, carry_look, frame_of, side_of, is_for_lcp}
 use Rattle.end_model.specs.Secrets.{uncovered_datagram}
-use Rattle.end_model.specs.Reading.{body_of}
+use Rattle.l2tp_header.specs.Reading.{body_of}
 use Rattle.end_model.specs.declared.moves.Move.{Move}
 use Rattle.end_model.specs.declared.moves.Move.TheVariants as move
 use Rattle.end_model.specs.declared.out.Out.{Out}
@@ -121,13 +121,13 @@ look_from role (Established tunnel peer) from h frame t q s g is = known_from ro
 
 -- the frame of a packet that was sent was sent in the call of its session, whatever is done with it
 module _ (w : World) (gs : List Passage) (n : ℕ) (o : Option Packet) (f : Held) (is : IsLoaded w n o f) (ok : PacketOk w.nodes gs is.packet) where
-  original : WasSentInCall w.nodes gs is.packet.from n is.header.session (frame_of (body_of is.header is.packet.bytes))
+  original : WasSentInCall w.nodes gs is.packet.from n is.header.session (frame_of (body_of is.packet.bytes is.header))
   unfolding uncovered_datagram
-  original = subst (λ k. WasSentInCall w.nodes gs is.packet.from k is.header.session (frame_of (body_of is.header is.packet.bytes))) is.to
+  original = subst (λ k. WasSentInCall w.nodes gs is.packet.from k is.header.session (frame_of (body_of is.packet.bytes is.header))) is.to
       ((ok.bytes None).frames is.header is.read is.plain)
 
-  from : (f.peer ≡ address_of is.packet.from) × (f.frame ≡ frame_of (body_of is.header is.packet.bytes))
-  from = look_from is.node.end.role _ (address_of is.packet.from) is.header (frame_of (body_of is.header is.packet.bytes)) f.tunnel f.peer f.side f.frame is.carried
+  from : (f.peer ≡ address_of is.packet.from) × (f.frame ≡ frame_of (body_of is.packet.bytes is.header))
+  from = look_from is.node.end.role _ (address_of is.packet.from) is.header (frame_of (body_of is.packet.bytes is.header)) f.tunnel f.peer f.side f.frame is.carried
 
   birth : f.birth ≡ original.passage.birth
   birth = is.birth ∙ birth_is w n is.header.session original.passage.birth original.birth

@@ -3,14 +3,14 @@ use Rattle.std.proofs.Common.{◌≡◌, ⊎_elim, ℕ, ◌+◌, ◌-◌, ◌^�
 use Rattle.id_table.specs.Ids.{at, put}
 use Rattle.id_table.specs.Order.{ascends-put, found_put}
 use Rattle.l2tp_header.specs.declared.header.Header.{Header}
-use Rattle.l2tp_header.specs.Reading.{header_of}
+use Rattle.l2tp_header.specs.Reading.{header_of, body_of}
 use Rattle.control_message.specs.declared.message.Message.{Message}
 use Rattle.end_model.specs.declared.event.Event.{Event}
 use Rattle.end_model.specs.declared.event.Event.TheVariants.{Datagram, Ring, Frame, Admitted, Payload, Lower, Lcp, Hang, OpenTunnel, DropCall, CloseTunnel, Tick}
 use Rattle.end_model.specs.declared.tunnel.Call.{Call}
 use Rattle.end_names.specs.declared.role.Role.{Role}
 use Rattle.end_names.specs.Names.{address_of, node_of}
-use Rattle.end_model.specs.Reading.{body_of, message_in, CallFault, call_fault_in, TunnelFault, tunnel_fault_in}
+use Rattle.end_model.specs.Reading.{message_in, CallFault, call_fault_in, TunnelFault, tunnel_fault_in}
 use Rattle.end_model.specs.Tunnels.{Tunnel}
 use Rattle.end_model.specs.End.{End}
 use Rattle.world_model.specs.World.{World, Node}
@@ -31,11 +31,11 @@ pub record HeardFrom (ns : Nodes) (n peer : ℕ) (bytes : List ℕ) : Type 0 whe
   pub from : ℕ
   pub number : from < 256
   pub address : peer ≡ address_of from
-  pub letters : (h : Header) → header_of bytes ≡ Ok h → h.control ≡ true → (m : Message) → message_in (body_of h bytes) ≡ Ok m
+  pub letters : (h : Header) → header_of bytes ≡ Ok h → h.control ≡ true → (m : Message) → message_in (body_of bytes h) ≡ Ok m
       → IsWritten m × NamesItsCall ns from n h.session m
-  pub faulty : (h : Header) → header_of bytes ≡ Ok h → h.control ≡ true → (f : CallFault) → call_fault_in (body_of h bytes) ≡ Some f
+  pub faulty : (h : Header) → header_of bytes ≡ Ok h → h.control ≡ true → (f : CallFault) → call_fault_in (body_of bytes h) ≡ Some f
       → (own : ℕ) × (f.session ≡ Some own) × (own < 65536)
-  pub told : (h : Header) → header_of bytes ≡ Ok h → h.control ≡ true → (g : TunnelFault) → tunnel_fault_in (body_of h bytes) ≡ Some g → g.remote < 65536
+  pub told : (h : Header) → header_of bytes ≡ Ok h → h.control ≡ true → (g : TunnelFault) → tunnel_fault_in (body_of bytes h) ≡ Some g → g.remote < 65536
 
 abbrev pub Heard : Nodes → ℕ → Event → Type 0
 Heard ns n (Datagram peer bytes) = HeardFrom ns n peer bytes
@@ -82,14 +82,14 @@ heard_letter ns n ev heard peer session m h =
 
 -- the session that a faulty message tells has 16 bits
 pub heard_faulty : (ns : Nodes) (n : ℕ) (ev : Event) → Heard ns n ev → (peer : ℕ) (bytes : List ℕ) (h : Header) → ev ≡ Datagram peer bytes
-    → header_of bytes ≡ Ok h → h.control ≡ true → (f : CallFault) → call_fault_in (body_of h bytes) ≡ Some f
+    → header_of bytes ≡ Ok h → h.control ≡ true → (f : CallFault) → call_fault_in (body_of bytes h) ≡ Some f
     → (own : ℕ) × (f.session ≡ Some own) × (own < 65536)
 heard_faulty ns n ev heard peer bytes h is read control f fault =
     let k : HeardFrom ns n peer bytes = subst (Heard ns n) is heard in k.faulty h read control f fault
 
 -- a fault tells no id of more than 16 bits
 pub heard_told : (ns : Nodes) (n : ℕ) (ev : Event) → Heard ns n ev → (peer : ℕ) (bytes : List ℕ) (h : Header) → ev ≡ Datagram peer bytes
-    → header_of bytes ≡ Ok h → h.control ≡ true → (g : TunnelFault) → tunnel_fault_in (body_of h bytes) ≡ Some g → g.remote < 65536
+    → header_of bytes ≡ Ok h → h.control ≡ true → (g : TunnelFault) → tunnel_fault_in (body_of bytes h) ≡ Some g → g.remote < 65536
 heard_told ns n ev heard peer bytes h is read control g fault =
     let k : HeardFrom ns n peer bytes = subst (Heard ns n) is heard in k.told h read control g fault
 

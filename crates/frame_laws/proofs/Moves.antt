@@ -50,14 +50,14 @@ use Rattle.end_names.specs.declared.role.Role.{Role}
 use Rattle.end_names.specs.declared.role.Role.TheVariants.{Lac, Lns}
 use Rattle.end_names.specs.Names.{node_of, host_name, calling_number}
 use Rattle.end_model.specs.Calls.{advanced, with_numbers, counted, rung, asked_for}
-use Rattle.end_model.specs.Tunnels.{Tunnel}
+use Rattle.end_model.specs.Tunnels.{Tunnel, new_tunnel}
 use Rattle.end_model.specs.Channels.{letter_of, letter_as, counts_given, counts_taken, learns_window}
 use Rattle.end_model.specs.Messages.{flags_of, opening_of, request_of, connection}
 use Rattle.end_model.specs.Links.{with_link}
 use Rattle.end_model.specs.End.{End, new_place}
 use Rattle.world_model.specs.World.{World, Node, with_birth, is_born, birth_of, moved}
 use Rattle.step_laws.specs.Callers.{wanted_by_lac}
-use Rattle.step_laws.specs.Moves.{heard_from, Rejects, Asks, Responds, with_tunnel, with_letter, new_tunnel, begun, Opens, Accepts, Connects, Confirms, Adds as AddsCall, Requests, Replies, ComesUpFirst, ComesUpSecond, Refuses, TellsEnd, HearsEnd, EndsSilently, Closes, ClosesBy, Clears, Greets, TakesPlain, Reads, LetsGo, Repeats, Negotiates, Counts, without_call, without_calls, Does}
+use Rattle.step_laws.specs.Moves.{heard_from, Rejects, Asks, Responds, with_tunnel, with_letter, begun, Opens, Accepts, Connects, Confirms, Adds as AddsCall, Requests, Replies, ComesUpFirst, ComesUpSecond, Refuses, TellsEnd, HearsEnd, EndsSilently, Closes, ClosesBy, Clears, Greets, TakesPlain, Reads, LetsGo, Repeats, Negotiates, Counts, without_call, without_calls, Does}
 use Rattle.call_link.specs.Link.{new_link}
 use Rattle.call_link.specs.Laws.{turn_at}
 use Rattle.frame_laws.specs.Plain.{HidesOk, number_hides}

@@ -25,10 +25,10 @@ use Rattle.end_model.specs.declared.out.Origin.TheVariants as origin
 use Rattle.world_model.specs.declared.packet.Packet.{Packet}
 use Rattle.end_names.specs.declared.role.Role.{Role}
 use Rattle.end_names.specs.Names.{address_of, node_of}
-use Rattle.end_model.specs.Reading.{body_of}
+use Rattle.l2tp_header.specs.Reading.{body_of}
 use Rattle.end_model.specs.Tunnels.{Tunnel}
 use Rattle.end_model.specs.End.{plain_step, End, Stepped}
-use Rattle.world_model.specs.World.{World, Node, Checkpoint, Sender, Deed, Lined, with_node, moved_all, sent, shown, shown_all, given, after_step}
+use Rattle.world_model.specs.World.{World, Node, Checkpoint, Sender, Deed, Lined, with_node, moved_all, packet_from, sent, shown, shown_all, given, after_step}
 use Rattle.step_laws.specs.Letters.{Among, Carries, ALetter, Nothing, AFrame, HasOutput}
 use Rattle.step_laws.specs.Links.{WhySent, IsGiven, IsOfLink}
 use Rattle.step_laws.specs.Steps.{InChain, IsOfMoves, IsDecline, IsChain}
@@ -116,7 +116,7 @@ shown_more n [] w = no_more w.packets
 shown_more n (Send peer bytes origin ∷ os) w =
     let v = sent w n (node_of peer) bytes origin in
     let r = shown_more n os v in
-    let one : Packet = record { from = n; to = node_of peer; bytes = bytes; origin = origin } in
+    let one : Packet = packet_from n (node_of peer) bytes origin in
     (one ∷ r.0, r.1 ∙ append_assoc w.packets (one ∷ []) r.0)
 shown_more n (Up session side frame ∷ os) w = shown_more n os w
 shown_more n (Gone session ∷ os) w = shown_more n os w
@@ -147,7 +147,7 @@ in_more before after more from to bytes o h =
 sent_there : (n : ℕ) (w : World) (peer : ℕ) (bytes : List ℕ) (o : Origin) → InPacket (sent w n (node_of peer) bytes o).packets n (node_of peer) bytes o
 unfolding sent
 sent_there n w peer bytes o = record {
-  packet = record { from = n; to = node_of peer; bytes = bytes; origin = o };
+  packet = packet_from n (node_of peer) bytes o;
   there = among_right _ w.packets _ (inl refl);
   from_is = refl;
   to_is = refl;
@@ -436,7 +436,7 @@ module _ (codecs : Codecs) (laws : StepLaws) (number : ℕ) (w : World) (gs : Li
       let why = d.does.why in
       let k : IsFrom w gs n m.peer d.does.bytes = subst (IsReal w gs n) d.does.is real in
       let fits = declined_fits w.nodes gs k.from n d.does.bytes k.bytes_ok d.does.header d.does.read d.does.control d.before m why in
-      let codes = decline_codes_fit d.before (body_of d.does.header d.does.bytes) m why in
+      let codes = decline_codes_fit d.before (body_of d.does.bytes d.does.header) m why in
       rw (h.bytes_are, d.does.nr)
       (letter_ok codecs m.remote 0 0 (unwrap_or d.does.header.ns 0 + 1) fits (omega arith) v.nodes (gs ++ more) n (node_of peer)
       (StopCcn 0 m.result m.error) None (omega arith, codes.0, codes.1) tt tt)

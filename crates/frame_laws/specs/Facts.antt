@@ -5,7 +5,7 @@ use Rattle.id_table.specs.Ids.{at}
 use Rattle.id_table.specs.Order.{Ascends}
 use Rattle.wire_base.specs.declared.letter.Letter.{Letter}
 use Rattle.l2tp_header.specs.declared.header.Header.{Header}
-use Rattle.l2tp_header.specs.Reading.{header_of}
+use Rattle.l2tp_header.specs.Reading.{header_of, body_of}
 use Rattle.control_message.specs.declared.message.Message.{Message}
 use Rattle.control_message.specs.declared.message.Message.TheVariants.{Sccrq, Sccrp, Scccn, StopCcn, Hello, Ocrq, Ocrp, Occn, Icrq, Icrp, Iccn, Cdn, Wen, Sli, Fsq, Fsr}
 use Rattle.end_model.specs.declared.tunnel.Call.{Call}
@@ -17,7 +17,7 @@ use Rattle.end_model.specs.Tunnels.{Tunnel}
 use Rattle.end_model.specs.declared.event.Addressee.TheVariants.{Opens, Answers}
 use Rattle.end_model.specs.Secrets.{uncovered_datagram}
 use Rattle.end_model.specs.Channels.{letter_as}
-use Rattle.end_model.specs.Reading.{body_of, message_in, CallFault, call_fault_in, TunnelFault, tunnel_fault_in, at_zero}
+use Rattle.end_model.specs.Reading.{message_in, CallFault, call_fault_in, TunnelFault, tunnel_fault_in, at_zero}
 use Rattle.session_looks.specs.Frames.{frame_of}
 use Rattle.end_model.specs.Calls.{is_up}
 use Rattle.end_model.specs.End.{End}
@@ -108,17 +108,17 @@ pub record WasSentInCall (ns : Nodes) (gs : List Passage) (from to session : ℕ
 
 -- what reading bytes may give
 pub record ReadOk (ns : Nodes) (gs : List Passage) (from to : ℕ) (bytes : List ℕ) : Type 0 where
-  pub frames : (h : Header) → header_of bytes ≡ Ok h → h.control ≡ false → WasSentInCall ns gs from to h.session (frame_of (body_of h bytes))
-  pub letters : (h : Header) → header_of bytes ≡ Ok h → h.control ≡ true → (m : Message) → message_in (body_of h bytes) ≡ Ok m
+  pub frames : (h : Header) → header_of bytes ≡ Ok h → h.control ≡ false → WasSentInCall ns gs from to h.session (frame_of (body_of bytes h))
+  pub letters : (h : Header) → header_of bytes ≡ Ok h → h.control ≡ true → (m : Message) → message_in (body_of bytes h) ≡ Ok m
       → IsWritten m × NamesItsCall ns from to h.session m
   -- a message about a call that has a fault tells a session id of 16 bits
-  pub faulty : (h : Header) → header_of bytes ≡ Ok h → h.control ≡ true → (f : CallFault) → call_fault_in (body_of h bytes) ≡ Some f
+  pub faulty : (h : Header) → header_of bytes ≡ Ok h → h.control ≡ true → (f : CallFault) → call_fault_in (body_of bytes h) ≡ Some f
       → (own : ℕ) × (f.session ≡ Some own) × (own < 65536)
   -- one that has another fault tells no tunnel id of more than 16 bits
-  pub told : (h : Header) → header_of bytes ≡ Ok h → h.control ≡ true → (g : TunnelFault) → tunnel_fault_in (body_of h bytes) ≡ Some g → g.remote < 65536
+  pub told : (h : Header) → header_of bytes ≡ Ok h → h.control ≡ true → (g : TunnelFault) → tunnel_fault_in (body_of bytes h) ≡ Some g → g.remote < 65536
   -- nor does one that would open a tunnel, or answer an opening, where it comes to none
   pub zero : (h : Header) → header_of bytes ≡ Ok h → h.control ≡ true → (i : ℕ)
-      → (at_zero (body_of h bytes) ≡ Opens i) ⊎ (at_zero (body_of h bytes) ≡ Answers i) → i < 65536
+      → (at_zero (body_of bytes h) ≡ Opens i) ⊎ (at_zero (body_of bytes h) ≡ Answers i) → i < 65536
 
 -- so it is with the bytes of a packet, whatever secret they are read with
 abbrev pub BytesOk : Nodes → List Passage → ℕ → ℕ → List ℕ → Type 0

@@ -1,5 +1,5 @@
 -- The body of a control message, with the pairs that it spells.
-use Rattle.std.specs.Prelude.{◌≡◌, ℕ, ◌-◌, ◌≤◌, true, List, take, drop, length, Result, Ok, Err, IfOk}
+use Rattle.std.specs.Prelude.{◌≡◌, ℕ, ◌≤◌, true, List, length, Result, Ok, Err, IfOk}
 use Rattle.wire_base.specs.Answers.{Gives}
 use Rattle.avp_codec.specs.declared.avp.Avp.{Avp}
 use Rattle.avp_codec.specs.declared.error.AvpError.{AvpError}
@@ -8,10 +8,7 @@ use Rattle.avp_codec.specs.Places.{pairs_in}
 use Rattle.avp_codec.specs.Reading.{avps_of, Told}
 use Rattle.l2tp_header.specs.declared.header.Header.{Header}
 use Rattle.l2tp_header.specs.declared.header.HeaderError.{HeaderError}
-
--- the bytes between the header and the end that it tells
-abbrev pub body_in : Header → List ℕ → List ℕ
-body_in h bytes = take (h.end - h.start) (drop h.start bytes)
+use Rattle.l2tp_header.specs.Reading.{body_of}
 
 -- a body's pairs as they were read: those that it spells, or their first fault, or that memory was wanting
 abbrev pub AreRead : List ℕ → Result (List Avp) AvpError → Type 0
@@ -23,7 +20,7 @@ ArePlaces body places = Gives Told (λ v. pairs_in body v) places (avps_of body)
 
 -- those of a control message
 abbrev pub AreReadOf : List ℕ → Result Header HeaderError → Result (List Place) AvpError → Type 0
-AreReadOf bytes (Ok h) places = h.control ≡ true → ArePlaces (body_in h bytes) places
+AreReadOf bytes (Ok h) places = h.control ≡ true → ArePlaces (body_of bytes h) places
 AreReadOf bytes (Err e) places = Unit {0}
 
 -- the body lies in the datagram

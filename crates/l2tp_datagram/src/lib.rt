@@ -2,8 +2,8 @@
 #![tactic(auto)]
 
 ghost use Rattle.std.specs.Prelude.{◌≡◌, true, length, Ok, nat_eq};
-ghost use Rattle.l2tp_header.specs.Reading.{header_of};
-ghost use Rattle.l2tp_datagram.specs.Bodies.{body_in, AreRead, AreReadOf, LiesInside};
+ghost use Rattle.l2tp_header.specs.Reading.{header_of, body_of};
+ghost use Rattle.l2tp_datagram.specs.Bodies.{AreRead, AreReadOf, LiesInside};
 
 use avp_codec::{AvpError, LentAvps, Places, read_places};
 use l2tp_header::{Header, HeaderError, read_header};
@@ -22,7 +22,7 @@ pub struct Datagram {
 
 impl Model for Datagram {
     ghost use Rattle.std.specs.Prelude.{◌≡◌, ℕ, List};
-    ghost use Rattle.l2tp_header.specs.Reading.{header_of};
+    ghost use Rattle.l2tp_header.specs.Reading.{header_of, body_of};
     ghost use Rattle.l2tp_datagram.specs.Bodies.{AreReadOf, LiesInside};
 
     ghost Value = { List ℕ };
@@ -99,7 +99,7 @@ impl Datagram {
     pub fn body(&self, header: &Header) -> Body<'_>
         requires header { header_of self.now ≡ Ok header.now }
         requires control { header.now.control ≡ true }
-        ensures { result ≡ body_in header.now self.now }
+        ensures { result ≡ body_of self.now header.now }
     {
         Body {
             bytes: &self.bytes.as_slice()[header.start..header.end],

@@ -46,12 +46,10 @@ impl Model for Node {
 
 /// The LAC 3 of an LNS, or an LNS 7 without one.
 fn config(lac: bool) -> Config {
-    Config {
-        number: if lac { 3 } else { 7 },
-        address: if lac { LAC } else { LNS },
-        lns: if lac { LNS } else { 0 },
-        secret: None,
-        hide: false,
+    if lac {
+        Config::new(3, LAC, LNS, None, false)
+    } else {
+        Config::new(7, LNS, 0, None, false)
     }
 }
 

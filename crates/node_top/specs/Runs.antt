@@ -13,6 +13,7 @@ use Rattle.port_events.specs.Feeding.{Given, Goes}
 use Rattle.port_turn.specs.Turns.{Waits, Asked}
 use Rattle.port_turn.specs.Runs.{Node, node}
 use Rattle.end_model.specs.declared.tunnel.Config.{Config}
+use Rattle.end_model.specs.End.{new_config}
 use Rattle.stored_ends.specs.declared.stops.OpenStop.TheVariants as opening
 use Rattle.node_words.specs.Plans.{Planned}
 use Rattle.node_run.specs.declared.end.NodeEnd.{NodeEnd}
@@ -32,13 +33,7 @@ use Rattle.node_top.specs.declared.exit.NodeExit.TheVariants as exits
 
 -- the configuration that a plan asks for: an LNS has no LNS
 abbrev pub config_of : Planned → Config
-config_of p = record {
-  number = p.identity.number;
-  address = p.identity.listen;
-  lns = unwrap_or p.identity.peer 0;
-  secret = p.texts.secret;
-  hide = p.texts.hide;
-}
+config_of p = new_config p.identity.number p.identity.listen (unwrap_or p.identity.peer 0) p.texts.secret p.texts.hide
 
 -- ---- why a run ends early
 

@@ -26,13 +26,13 @@ use stored_ends::OpenStop;
 fn config_of(plan: Plan) -> Config
     ensures { result ≡ config_of (planned plan) }
 {
-    Config {
-        number: plan.number,
-        address: plan.listen,
-        lns: plan.peer.unwrap_or(0),
-        secret: plan.secret,
-        hide: plan.hide,
-    }
+    Config::new(
+        plan.number,
+        plan.listen,
+        plan.peer.unwrap_or(0),
+        plan.secret,
+        plan.hide,
+    )
 }
 
 /// How a node ends whose end wasn't opened.

@@ -26,7 +26,7 @@ use Rattle.end_names.specs.declared.role.Role.TheVariants as role
 use Rattle.end_names.specs.Names.{subscriber, address_of, calling_number}
 use Rattle.end_model.specs.Messages.{opening_of}
 use Rattle.end_model.specs.Openings.{fresh}
-use Rattle.step_laws.specs.Moves.{new_tunnel}
+use Rattle.end_model.specs.Tunnels.{new_tunnel}
 use Rattle.end_model.specs.End.{End, new_end, new_place, step}
 use Rattle.world_model.specs.World.{config_of}
 use Rattle.run_examples.specs.Channels.{channel}

@@ -16,7 +16,7 @@ use Rattle.end_names.specs.declared.role.Role.TheVariants as role
 use Rattle.end_names.specs.Names.{address_of}
 use Rattle.end_model.specs.End.{End, new_end, step}
 use Rattle.world_model.specs.Texts.{Entry, Sends}
-use Rattle.world_model.specs.World.{World, Lined, config_of, empty_world, new_node, line}
+use Rattle.world_model.specs.World.{World, Lined, config_of, empty_world, new_node, packet_from, line}
 use Rattle.run_examples.specs.Channels.{channel}
 use Rattle.run_examples.specs.Samples.{tunnel_up}
 
@@ -31,12 +31,7 @@ abbrev pub bytes : ℕ → ℕ → List ℕ
 bytes ns nr = control_bytes 7 0 (on_wire ns) (on_wire nr) (spelling (pairs_of (Icrq 2 2 (Some (48 ∷ [])))))
 
 abbrev pub packet : ℕ → ℕ → Packet
-packet ns nr = record {
-  from = 9;
-  to = 4;
-  bytes = bytes ns nr;
-  origin = origin.Control (record { tunnel = 1; ns = ns; nr = nr; empty = false });
-}
+packet ns nr = packet_from 9 4 (bytes ns nr) (origin.Control (record { tunnel = 1; ns = ns; nr = nr; empty = false }))
 
 abbrev pub world : ℕ → ℕ → ℕ → World
 world taken ns nr = record empty_world { nodes = (4, record (new_node 0 4 role.Lns 0 None false) { end = lns taken }) ∷ []; packets = packet ns nr ∷ [] }

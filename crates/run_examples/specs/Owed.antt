@@ -16,8 +16,7 @@ use Rattle.end_names.specs.declared.role.Role.TheVariants as role
 use Rattle.end_names.specs.Names.{subscriber, address_of}
 use Rattle.end_model.specs.Ringing.{rings_by}
 use Rattle.end_model.specs.Sending.{settles}
-use Rattle.step_laws.specs.Moves.{new_tunnel}
-use Rattle.end_model.specs.Tunnels.{turn_of}
+use Rattle.end_model.specs.Tunnels.{turn_of, new_tunnel}
 use Rattle.end_model.specs.End.{End, new_end, env_of, after_turn, step}
 use Rattle.world_model.specs.World.{config_of}
 use Rattle.run_examples.specs.Channels.{channel}

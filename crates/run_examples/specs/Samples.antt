@@ -12,8 +12,7 @@ use Rattle.end_model.specs.declared.tunnel.CallPlace.{CallPlace}
 use Rattle.end_model.specs.declared.tunnel.Control.{Control}
 use Rattle.end_model.specs.Calls.{idle_call}
 use Rattle.end_model.specs.Openings.{fresh}
-use Rattle.end_model.specs.Tunnels.{Tunnel}
-use Rattle.step_laws.specs.Moves.{new_tunnel}
+use Rattle.end_model.specs.Tunnels.{Tunnel, new_tunnel}
 use Rattle.end_model.specs.End.{new_place}
 
 -- an open tunnel to a node, by both of its ids, with this channel

@@ -1,5 +1,5 @@
 -- The line that a frame makes which a node held is the line of the world.
-use Rattle.std.proofs.Common.{◌≡◌, ℕ, Bool, true, false, List, [], ◌∷◌, ◌++◌, append_assoc, append-nil, refl, sym, ap, subst, ◌∙◌, Option, Some, None, Result, Ok, Err}
+use Rattle.std.proofs.Common.{◌≡◌, ℕ, Bool, true, false, ◌∷◌, append_assoc, append-nil, refl, sym, ap, subst, ◌∙◌, Option, Some, None, Result, Ok, Err}
 use Rattle.std.specs.Prelude.{IsOk, is_some, if◌then◌else◌}
 use Rattle.std.proofs.lemmas.Bool.{true≢false}
 use Rattle.id_table.specs.Ids.{at, at-none}
@@ -7,25 +7,23 @@ use Rattle.wire_base.specs.declared.letter.Side.{Side}
 use Rattle.wire_base.specs.declared.letter.Side.TheVariants as side
 use Rattle.wire_base.specs.declared.why.Why.{Why}
 use Rattle.wire_base.specs.declared.why.Why.TheVariants as why
-use Rattle.end_names.specs.declared.role.Role.{Role}
 use Rattle.end_model.specs.declared.event.Event.TheVariants.{Lcp}
 use Rattle.end_model.specs.Access.{Access, serves}
 use Rattle.end_model.specs.Contents.{contents_of}
 use Rattle.end_model.specs.End.{Stepped, step}
 use Rattle.world_model.specs.declared.refusal.Refusal.{Refusal}
 use Rattle.world_model.specs.declared.refusal.Refusal.TheVariants.{Unfit, HalfSpace, StoreFull}
-use Rattle.world_model.specs.Texts.{entry_text, entries_text}
+use Rattle.world_model.specs.Texts.{entry_text}
 use Rattle.world_model.specs.declared.held.Held.{Held}
-use Rattle.world_model.specs.World.{World, Node, Checkpoint, Lined, Committed, IsFull, IsCut, IsWhole, quiet_line, with_node, moved_all, entries_of, given, after_step, commits, without_held, cut_line, settled, committed, stepped, block_of, declared, held_at, taken_up, hand_entry, behind_up, hears, hands_it, hands}
-use Rattle.schedule_replay.specs.Counting.{ups_with, ups_after}
+use Rattle.world_model.specs.World.{World, Node, Lined, Committed, IsFull, IsCut, IsWhole, with_node, moved_all, given, after_step, commits, without_held, cut_line, settled, committed, stepped, block_of, declared, held_at, taken_up, hand_entry, behind_up, hears, hands_it, hands}
 use Rattle.schedule_replay.specs.declared.fault.LineFault.{LineFault}
 use Rattle.schedule_replay.specs.declared.fault.LineFault.TheVariants.{Refused, NoMemory as OutOfMemory}
 use Rattle.schedule_replay.specs.declared.kinds.Moved.{Moved}
 use Rattle.schedule_replay.specs.declared.node.Unmade.{Unmade}
 use Rattle.schedule_replay.specs.declared.node.Unmade.TheVariants as unmade
-use Rattle.schedule_replay.specs.Fault.{Told, LeadsTo, Stays, Says}
+use Rattle.schedule_replay.specs.Fault.{Told, Stays, Says}
 use Rattle.schedule_replay.specs.Kinds.{site_in}
-use Rattle.schedule_replay.specs.Serving.{SiteStep, by_served, step_with, site_step, end_step, site_commits, MakesStep, reply_entries, moved_to, whole_line, served_by, served_line, ShowsMade, told_first, ShowsBehind, heard_at, passes_to, passes}
+use Rattle.schedule_replay.specs.Serving.{SiteStep, step_with, site_step, end_step, site_commits, MakesStep, moved_to, whole_line, served_by, served_line, ShowsBehind, heard_at, passes_to, passes}
 use Rattle.schedule_replay.proofs.Serving.{SameLine, same_says}
 
 -- a node for which there are no frames holds none with this number

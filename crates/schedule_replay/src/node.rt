@@ -68,13 +68,7 @@ pub(crate) fn copy_secret(
 pub(crate) fn config_of(number: u8, lns: u32, secret: Option<Bytes>, hide: bool) -> Config
     ensures { result ≡ config_of number lns secret hide }
 {
-    Config {
-        number,
-        address: address_of(number),
-        lns,
-        secret,
-        hide,
-    }
+    Config::new(number, address_of(number), lns, secret, hide)
 }
 
 /// How often something was counted, or which number something has, for an id; 0 where there is none.

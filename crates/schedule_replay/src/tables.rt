@@ -1,9 +1,9 @@
 //! The tables at the end of a report.
 
-ghost use Rattle.std.specs.Prelude.{◌≡◌, ◌++◌, count_by, option_map, OnOk, IfOk, Some};
+ghost use Rattle.std.specs.Prelude.{◌≡◌, ◌++◌, option_map, OnOk, Some};
 ghost use Rattle.std.specs.Option.{option_copied};
-ghost use Rattle.id_table.specs.Ids.{at, ids_of};
-ghost use Rattle.world_model.specs.Run.{call_table, tunnel_line, node_table, end_table, lns_tunnel, partner_of, agree, is_session, session_count, agree_with, agree_line, node_agreements, agreement_table};
+ghost use Rattle.id_table.specs.Ids.{at};
+ghost use Rattle.world_model.specs.Run.{call_table, tunnel_line, node_table, end_table, lns_tunnel, partner_of, agree, session_count, agree_with, agree_line, node_agreements, agreement_table};
 ghost use Rattle.tunnel_core.specs.Cores.{tunnel_of};
 
 use crate::node::{Node, count_at};

@@ -8,13 +8,13 @@ use Rattle.end_model.specs.declared.event.Event.{Event}
 use Rattle.end_model.specs.declared.moves.Accepted.{Accepted}
 use Rattle.end_model.specs.declared.moves.Move.TheVariants as move
 use Rattle.end_names.specs.Names.{node_of}
-use Rattle.end_model.specs.Tunnels.{Tunnel}
+use Rattle.end_model.specs.Tunnels.{Tunnel, new_tunnel}
 use Rattle.end_model.specs.Messages.{flags_of, opening_of}
 use Rattle.end_model.specs.Channels.{counts_taken, learns_window}
 use Rattle.end_model.specs.End.{End}
 use Rattle.world_model.specs.World.{Sender, Deed, config_of}
 use Rattle.step_laws.specs.Letters as step_laws
-use Rattle.step_laws.specs.Moves.{with_letter, new_tunnel, begun}
+use Rattle.step_laws.specs.Moves.{with_letter, begun}
 use Rattle.epoch_machine.specs.Letters as letter
 use Rattle.epoch_machine.specs.Tunnels.{WaitConnect, accepted}
 use Rattle.epoch_machine.specs.Worlds.{World, all_rules, gives, took_one}

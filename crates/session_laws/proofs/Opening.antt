@@ -8,12 +8,12 @@ use Rattle.end_model.specs.declared.event.Event.{Event}
 use Rattle.end_model.specs.declared.moves.Opened.{Opened}
 use Rattle.end_model.specs.declared.moves.Move.TheVariants as move
 use Rattle.end_names.specs.Names.{node_of}
-use Rattle.end_model.specs.Tunnels.{Tunnel}
+use Rattle.end_model.specs.Tunnels.{Tunnel, new_tunnel}
 use Rattle.end_model.specs.Messages.{opening_of}
 use Rattle.end_model.specs.End.{End}
 use Rattle.world_model.specs.World.{Sender, Deed, config_of}
 use Rattle.step_laws.specs.Letters as step_laws
-use Rattle.step_laws.specs.Moves.{with_letter, new_tunnel, begun}
+use Rattle.step_laws.specs.Moves.{with_letter, begun}
 use Rattle.epoch_machine.specs.Letters as letter
 use Rattle.epoch_machine.specs.Tunnels.{WaitReply, opened}
 use Rattle.epoch_machine.specs.Worlds.{World, all_rules, gives}

@@ -45,7 +45,8 @@ use Rattle.step_laws.proofs.Linking.{linked_call, negotiated_is, negotiated_put}
 use Rattle.end_names.specs.declared.role.Role.TheVariants.{Lac, Lns}
 use Rattle.end_model.specs.declared.out.Out.TheVariants.{Cause}
 use Rattle.session_looks.specs.Frames.{header_why}
-use Rattle.end_model.specs.Reading.{body_of, message_in, CallFault, call_fault_in, TunnelFault, tunnel_fault_in}
+use Rattle.l2tp_header.specs.Reading.{body_of}
+use Rattle.end_model.specs.Reading.{message_in, CallFault, call_fault_in, TunnelFault, tunnel_fault_in}
 use Rattle.end_model.specs.Calls.{call_row, row_for, row_of_none, advanced, with_numbers, counted, rung, asked_for, is_request, is_connection, is_up, are_too_many, is_clean_up, is_short, is_long}
 use Rattle.end_model.specs.Stopping.{rejects, rejected, shut, shuts, closed_told, closes_tunnel, closed_by, shuts_by}
 use Rattle.end_model.specs.Messages.{connected_reason, connected_event, event_by, opening_reason, Told, tells_id, told_by}
@@ -682,7 +683,7 @@ module _ (role : Role) (calls : List (ℕ × Call)) where
     datagram_asked c letters bytes (Err x) t busy b = dropped (header_why x) t b
     datagram_asked c letters bytes (Ok k) t busy b =
         branch Asked k.control _ _
-        (λ control. control_asked c letters k (body_of k bytes) t busy b)
+        (λ control. control_asked c letters k (body_of bytes k) t busy b)
         (λ data_is. dropped why.Session t b)
 
   -- ---- rings

@@ -16,13 +16,13 @@ use Rattle.end_model.specs.declared.event.Event.{Event}
 use Rattle.end_model.specs.declared.event.Addressee.TheVariants.{Opens, Stops}
 use Rattle.end_model.specs.Reading.{message_read, pairs_read, message_in}
 use Rattle.end_model.specs.Calls.{row_for, is_told}
-use Rattle.end_model.specs.Tunnels.{Tunnel, Turn}
+use Rattle.end_model.specs.Tunnels.{Tunnel, Turn, new_tunnel}
 use Rattle.end_model.specs.Moments.{is_closed}
 use Rattle.end_model.specs.Channels.{may_take}
 use Rattle.end_model.specs.Events.{tunnel_after, with_calls}
 use Rattle.end_model.specs.End.{End}
 use Rattle.step_laws.specs.Causes.{IsTold, CameAbout}
-use Rattle.step_laws.specs.Moves.{Came, Says, IsFor, ComesTo, IsNext, HearsNext, IsPlain, InTunnel, new_tunnel}
+use Rattle.step_laws.specs.Moves.{Came, Says, IsFor, ComesTo, IsNext, HearsNext, IsPlain, InTunnel}
 use Rattle.step_laws.proofs.Turns.{ComesPlain, TurnOk, PlainAt, at_turn}
 
 -- an empty body is no message

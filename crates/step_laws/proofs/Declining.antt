@@ -1,14 +1,14 @@
 -- An SCCRQ opens a tunnel or is declined, and an SCCRP that names no tunnel is declined.
 use Rattle.std.proofs.Common.{◌≡◌, inl, inr, ⊎_elim, ℕ, ◌<◌, true, List, length, refl, sym, ap, ◌∙◌, subst, Option, Some, None, Ok, Err}
 use Rattle.l2tp_header.specs.declared.header.Header.{Header}
-use Rattle.l2tp_header.specs.Reading.{header_of}
+use Rattle.l2tp_header.specs.Reading.{header_of, body_of}
 use Rattle.control_message.specs.declared.message.Opening.{Opening}
 use Rattle.control_message.specs.declared.message.Message.TheVariants.{Sccrq}
 use Rattle.end_model.specs.declared.event.Addressee.TheVariants.{Opens, Answers}
 use Rattle.end_model.specs.declared.event.Event.{Event}
 use Rattle.end_model.specs.declared.event.Event.TheVariants.{Datagram}
 use Rattle.end_model.specs.declared.moves.Declined.{Declined}
-use Rattle.end_model.specs.Reading.{body_of, message_in, TunnelFault, tunnel_fault_in, at_zero}
+use Rattle.end_model.specs.Reading.{message_in, TunnelFault, tunnel_fault_in, at_zero}
 use Rattle.end_model.specs.Tunnels.{Env}
 use Rattle.end_model.specs.Reasons.{Reason, out_of_order, fault_reason}
 use Rattle.end_model.specs.End.{End, env_of, in_new, known_as, against_opening, against_faulty, against_body, next_of_peer, declined, opens_or_declines}
@@ -27,7 +27,7 @@ module _ (e : End) (kept : AreKept e) (moment peer : ℕ) (bytes : List ℕ) (h 
   ev = Datagram peer bytes
 
   abbrev body : List ℕ
-  body = body_of h bytes
+  body = body_of bytes h
 
   named : NamesNone ev peer body
   named = record { bytes = bytes; is = refl; header = h; read = read; control = control; none = none; body_is = refl }

@@ -24,7 +24,7 @@ use Rattle.tunnel_fsm.specs.Rows.{rows, row_of, state_number}
 use Rattle.call_fsm.specs.declared.table.CallEvent.{CallEvent}
 use Rattle.call_fsm.specs.declared.table.CallEvent.TheVariants as call_event
 use Rattle.l2tp_header.specs.declared.header.Header.{Header}
-use Rattle.l2tp_header.specs.Reading.{header_of}
+use Rattle.l2tp_header.specs.Reading.{header_of, body_of}
 use Rattle.control_message.specs.declared.message.Message.{Message}
 use Rattle.control_message.specs.declared.message.Message.TheVariants.{Sccrq, Sccrp, Scccn, StopCcn, Hello, Ocrq, Ocrp, Occn, Icrq, Icrp, Iccn, Cdn, Wen, Sli, Fsq, Fsr}
 use Rattle.control_message.specs.declared.message.Opening.{Opening}
@@ -36,7 +36,7 @@ use Rattle.call_link.specs.Laws.{LinkStep}
 use Rattle.end_model.specs.declared.event.Event.{Event}
 use Rattle.end_model.specs.declared.event.Event.TheVariants.{Datagram, Payload, Lower, Lcp, Hang, OpenTunnel, DropCall, CloseTunnel}
 use Rattle.end_model.specs.declared.out.Out.TheVariants.{Drop, Cause as Refused}
-use Rattle.end_model.specs.Reading.{body_of, message_in}
+use Rattle.end_model.specs.Reading.{message_in}
 use Rattle.end_model.specs.Calls.{row_for, is_up, is_told, owes, is_short, is_long}
 use Rattle.end_model.specs.Tunnels.{Tunnel, Env, Turn, turn_of}
 use Rattle.end_model.specs.Reasons.{reason}
@@ -78,7 +78,7 @@ use Rattle.step_laws.proofs.Hearing.{hears_control_ok, rings_ok}
 
 -- a message that names the tunnel with an id, or names none and is for it
 abbrev pub IsTo : Header → List ℕ → ℕ → Control → Type 0
-IsTo h bytes i c = (h.tunnel ≡ i) ⊎ (IsAgain h (body_of h bytes) c ⊎ IsStop h (body_of h bytes) c)
+IsTo h bytes i c = (h.tunnel ≡ i) ⊎ (IsAgain h (body_of bytes h) c ⊎ IsStop h (body_of bytes h) c)
 
 -- a step that leads there, and what it tells is so
 pub record IsStep (e : End) (moment : ℕ) (ev : Event) (s : Stepped) : Type 0 where
@@ -237,9 +237,9 @@ module _ (e : End) (kept : AreKept e) (moment : ℕ) (ev : Event) where
 
       -- the message names the tunnel, or names none and is for it
       came : Header → List ℕ → Came
-      came h bytes = record { peer = t.control.peer; header = h; body = body_of h bytes }
+      came h bytes = record { peer = t.control.peer; header = h; body = body_of bytes h }
 
-      is_for : (h : Header) (bytes : List ℕ) → IsTo h bytes i t.control → IsFor h (body_of h bytes) t.control
+      is_for : (h : Header) (bytes : List ℕ) → IsTo h bytes i t.control → IsFor h (body_of bytes h) t.control
       is_for h bytes to = ⊎_elim (λ named. inl (named ∙ sym k.local)) (λ unnamed. inr unnamed) to
 
       pub heard_chain : (bytes : List ℕ) (h : Header) → header_of bytes ≡ Ok h → h.control ≡ true → ev ≡ Datagram t.control.peer bytes
@@ -550,13 +550,13 @@ module _ (e : End) (kept : AreKept e) (moment : ℕ) (ev : Event) where
       first_chain session (Err w) said alone = dropped_new why.Tunnel (λ q. absurd cc)
 
       pub first_heard : (bytes : List ℕ) (h : Header) → header_of bytes ≡ Ok h → h.control ≡ true → ev ≡ Datagram peer bytes
-          → ((o : Opening) → message_in (body_of h bytes) ≡ Ok (Sccrq o) → MayMake o) → leads_new (turns e.role e.config [] [] (Datagram peer bytes) blank)
+          → ((o : Opening) → message_in (body_of bytes h) ≡ Ok (Sccrq o) → MayMake o) → leads_new (turns e.role e.config [] [] (Datagram peer bytes) blank)
       unfolding turns hears_datagram hears_control
       first_heard bytes h read control same alone =
           subst (λ x. leads_new (hears_datagram e.role e.config [] [] bytes x blank)) (sym read)
           (branch leads_new h.control _ _
-          (λ c. first_chain h.session (message_in (body_of h bytes)) (λ m said. record {
-            letter = record { peer = peer; header = h; body = body_of h bytes };
+          (λ c. first_chain h.session (message_in (body_of bytes h)) (λ m said. record {
+            letter = record { peer = peer; header = h; body = body_of bytes h };
             came = record { bytes = bytes; is = same; read = read; control = control; body_is = refl };
             peer_is = refl;
             says = record { session_is = refl; said = said };

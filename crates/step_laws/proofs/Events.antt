@@ -14,7 +14,7 @@ use Rattle.wire_base.specs.declared.cause.Cause.TheVariants as cause
 use Rattle.wire_base.specs.declared.letter.Letter.{Letter}
 use Rattle.l2tp_header.specs.declared.header.Header.{Header}
 use Rattle.l2tp_header.specs.declared.header.HeaderError.{HeaderError}
-use Rattle.l2tp_header.specs.Reading.{header_of}
+use Rattle.l2tp_header.specs.Reading.{header_of, body_of}
 use Rattle.control_channel.specs.Numbers.{class_told}
 use Rattle.tunnel_fsm.specs.declared.table.TunnelEvent.TheVariants as event
 use Rattle.tunnel_fsm.specs.Rows.{rows, row_of, state_number}
@@ -30,7 +30,7 @@ use Rattle.end_model.specs.declared.event.Event.TheVariants.{Datagram, Ring, Pay
 use Rattle.end_model.specs.declared.out.Out.{Out}
 use Rattle.end_model.specs.declared.moves.Move.{Move}
 use Rattle.session_looks.specs.Frames.{header_why}
-use Rattle.end_model.specs.Reading.{body_of, message_in}
+use Rattle.end_model.specs.Reading.{message_in}
 use Rattle.end_model.specs.Calls.{rung, are_too_many}
 use Rattle.end_model.specs.Tunnels.{Ground, Turn}
 use Rattle.end_model.specs.Turn.{with_move, with_new}
@@ -68,7 +68,7 @@ module _ (F : ℕ → List ℕ → Type 0) (on : Ground) where
   datagram_quiet role c letters calls bytes (Err x) t so h = dropped F on 0 1 (header_why x) t (unread F on h)
   datagram_quiet role c letters calls bytes (Ok k) t so h =
       branch (IsQuiet F on 0 1) k.control _ _
-      (λ control. control_quiet role c letters calls k (body_of k bytes) t so h)
+      (λ control. control_quiet role c letters calls k (body_of bytes k) t so h)
       (λ data_is. dropped F on 0 1 why.Session t (unread F on h))
 
   -- ---- rings

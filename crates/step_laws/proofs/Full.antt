@@ -15,7 +15,8 @@ use Rattle.end_model.specs.declared.event.Event.TheVariants.{Datagram}
 use Rattle.end_model.specs.declared.event.Addressee.TheVariants.{Main}
 use Rattle.end_model.specs.declared.out.Out.{Out}
 use Rattle.end_model.specs.declared.out.Out.TheVariants.{Drop}
-use Rattle.end_model.specs.Reading.{body_of, at_tunnel}
+use Rattle.l2tp_header.specs.Reading.{body_of}
+use Rattle.end_model.specs.Reading.{at_tunnel}
 use Rattle.end_model.specs.Tunnels.{Env, Turn, Tunnel, turn_of}
 use Rattle.end_model.specs.Turn.{with_output, with_move, drops}
 use Rattle.end_model.specs.Sending.{reads_nr, sends_letter, sends_now, lets_go, goes_by, lets_all_go, acknowledges, acknowledged_after, outstanding, settles}
@@ -81,7 +82,7 @@ module _ (e : End) (kept : AreKept e) (moment : ℕ) (block : List ℕ) (ev : Ev
   abbrev bytes : List ℕ
   bytes = f.next.comes.came.bytes
 
-  body_is : body ≡ body_of header bytes
+  body_is : body ≡ body_of bytes header
   body_is = f.next.comes.came.body_is
 
   abbrev nr : ℕ

@@ -16,7 +16,7 @@ use Rattle.wire_base.specs.declared.letter.Side.{Side}
 use Rattle.wire_base.specs.declared.letter.Side.TheVariants as side
 use Rattle.l2tp_header.specs.declared.header.Header.{Header}
 use Rattle.l2tp_header.specs.declared.header.HeaderError.{HeaderError}
-use Rattle.l2tp_header.specs.Reading.{header_of}
+use Rattle.l2tp_header.specs.Reading.{header_of, body_of}
 use Rattle.tunnel_fsm.specs.declared.table.TunnelState.TheVariants.{WaitCtlReply, Established}
 use Rattle.end_names.specs.declared.role.Role.TheVariants.{Lac, Lns}
 use Rattle.end_model.specs.declared.tunnel.Call.{Call}
@@ -32,7 +32,6 @@ use Rattle.end_model.specs.declared.event.Event.{Event}
 use Rattle.end_model.specs.declared.event.Event.TheVariants.{Datagram, Ring, Payload, Lower, Lcp, Hang, OpenTunnel, DropCall, CloseTunnel, Tick, Admitted, Frame}
 use Rattle.end_model.specs.declared.out.Out.{Out}
 use Rattle.end_model.specs.declared.out.Out.TheVariants.{Drop, Cause}
-use Rattle.end_model.specs.Reading.{body_of}
 use Rattle.end_model.specs.Calls.{is_lac}
 use Rattle.end_model.specs.Tunnels.{Tunnel, Env, Turn, turn_of}
 use Rattle.end_model.specs.Reasons.{Reason, out_of_order}
@@ -192,7 +191,7 @@ module _ (e : End) (kept : AreKept e) (looks : LooksAreTrue e) (moment : ℕ) (b
 
   -- the calls of a tunnel have their places
   has_place : (i : ℕ) (t : Tunnel) → at e.tunnels i ≡ Some t → (q : ℕ) (c : Call) → at t.calls q ≡ Some c → IsThere e.calls q
-  has_place i t is q c live = there_is e.calls q (record { tunnel = i; look = look_of c i t.control.peer }) (looks.seen i t is q c live)
+  has_place i t is q c live = there_is e.calls q (record (new_place i) { look = look_of c i t.control.peer }) (looks.seen i t is q c live)
 
   have_places : (i : ℕ) (t : Tunnel) → at e.tunnels i ≡ Some t → (q : ℕ) → IsThere t.calls q → IsThere e.calls q
   have_places i t is q there = let c = found (at t.calls q) there in has_place i t is q c.0 c.1
@@ -265,8 +264,8 @@ module _ (e : End) (kept : AreKept e) (looks : LooksAreTrue e) (moment : ℕ) (b
   received_goes peer bytes (Err x) = dropped_goes (header_why x)
   received_goes peer bytes (Ok h) =
       branch Goes h.control _ _
-      (λ control. addressee_goes (Datagram peer bytes) peer h (body_of h bytes) (addressed e peer h (body_of h bytes)))
-      (λ data_is. handed_goes h.session (carry_look e.role (look_in (at e.calls h.session)) peer h (frame_of (body_of h bytes))))
+      (λ control. addressee_goes (Datagram peer bytes) peer h (body_of bytes h) (addressed e peer h (body_of bytes h)))
+      (λ data_is. handed_goes h.session (carry_look e.role (look_in (at e.calls h.session)) peer h (frame_of (body_of bytes h))))
 
   -- ---- rings and calls
 
@@ -372,8 +371,8 @@ module _ (e : End) (kept : AreKept e) (looks : LooksAreTrue e) (moment : ℕ) (b
   one_tunnel i j t u a b q live also =
       let c = found (at t.calls q) live in
       let d = found (at u.calls q) also in
-      let p : CallPlace = record { tunnel = i; look = look_of c.0 i t.control.peer } in
-      let r : CallPlace = record { tunnel = j; look = look_of d.0 j u.control.peer } in
+      let p : CallPlace = record (new_place i) { look = look_of c.0 i t.control.peer } in
+      let r : CallPlace = record (new_place j) { look = look_of d.0 j u.control.peer } in
       let both : Some p ≡ Some r = sym (looks.seen i t a q c.0 c.1) ∙ looks.seen j u b q d.0 d.1 in
       let same : p ≡ r = cc in
       ap (λ (x : CallPlace). x.tunnel) same

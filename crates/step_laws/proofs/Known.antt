@@ -4,13 +4,13 @@ use Rattle.std.proofs.lemmas.Bool.{eqb-true, eq-eqb, true≢false}
 use Rattle.std.specs.Prelude.{◌==◌}
 use Rattle.id_table.specs.Ids.{at, ids_of}
 use Rattle.l2tp_header.specs.declared.header.Header.{Header}
-use Rattle.l2tp_header.specs.Reading.{header_of}
+use Rattle.l2tp_header.specs.Reading.{header_of, body_of}
 use Rattle.control_message.specs.declared.message.Message.TheVariants.{Sccrq, Sccrp}
 use Rattle.control_message.specs.declared.message.Opening.{Opening}
 use Rattle.end_model.specs.declared.event.Addressee.TheVariants.{Opens, Stops}
 use Rattle.end_model.specs.declared.event.Event.{Event}
 use Rattle.end_model.specs.declared.event.Event.TheVariants.{Datagram}
-use Rattle.end_model.specs.Reading.{body_of, message_in, at_zero}
+use Rattle.end_model.specs.Reading.{message_in, at_zero}
 use Rattle.end_model.specs.Tunnels.{Tunnel}
 use Rattle.end_model.specs.End.{End, is_known, known_as}
 use Rattle.step_laws.specs.Causes.{WouldOpen}
@@ -98,6 +98,6 @@ module _ (e : End) (ev : Event) (i : ℕ) (t : Tunnel) (there : at e.tunnels i �
       let came = heard.next.comes.came in
       let once = came_once ev k.peer would.peer came.bytes would.came.bytes k.header would.came.header came.is would.came.is came.read would.came.read in
       let bodies : k.body ≡ would.body =
-      came.body_is ∙ ap (λ (x : Header). body_of x came.bytes) once.one_header ∙ ap (body_of would.came.header) once.one_packet ∙ sym would.came.body_is in
+      came.body_is ∙ ap (λ (x : Header). body_of came.bytes x) once.one_header ∙ ap (λ (b : List ℕ). body_of b would.came.header) once.one_packet ∙ sym would.came.body_is in
       let both : Ok (Sccrp o) ≡ Ok (Sccrq p) = sym heard.says.said ∙ ap message_in bodies ∙ would.said in
       absurd cc

@@ -25,11 +25,11 @@ use Rattle.session_looks.specs.declared.look.CellChange.TheVariants as cell
 use Rattle.end_model.specs.declared.tunnel.Control.{Control}
 use Rattle.session_looks.specs.declared.look.Look.TheVariants as look
 use Rattle.end_model.specs.Calls.{call_row, advanced, with_numbers, counted, rung, asked_for}
-use Rattle.end_model.specs.Tunnels.{Tunnel}
+use Rattle.end_model.specs.Tunnels.{Tunnel, new_tunnel}
 use Rattle.end_model.specs.Links.{with_link, looks_of}
-use Rattle.end_model.specs.End.{End, with_look, with_looks}
+use Rattle.end_model.specs.End.{End, with_look, with_looks, new_place}
 use Rattle.step_laws.specs.Callers.{wanted_by_lac}
-use Rattle.step_laws.specs.Moves.{with_tunnel, Does, Chain, new_tunnel}
+use Rattle.step_laws.specs.Moves.{with_tunnel, Does, Chain}
 use Rattle.step_laws.specs.Steps.{AreKept, StepsAreChains}
 use Rattle.step_laws.proofs.States.{requested_state, replied_state, rung_state, connected_state, up_state, request_is_lac, connection_is_lac, reply_is_lns, connected_is_lns}
 use Rattle.step_laws.proofs.Lists.{found_among, none_not_among, ascends_look, ascends_looks, killed_same, killed_other}
@@ -86,8 +86,8 @@ same_place places s p is q = ⊎_elim
 
 -- what is seen of a call where frames of the network begin to pass, or is as before
 opened_place : (places : List (ℕ × CallPlace)) (s i peer : ℕ) (was passes opens : Bool) → opens ≡ (not was && passes) → (was ≡ true → passes ≡ true)
-    → at places s ≡ Some (record { tunnel = i; look = look_by was i peer }) → (q : ℕ)
-    → at (with_looks (looks_of opens s) places) q ≡ at (put places s (record { tunnel = i; look = look_by passes i peer })) q
+    → at places s ≡ Some (record (new_place i) { look = look_by was i peer }) → (q : ℕ)
+    → at (with_looks (looks_of opens s) places) q ≡ at (put places s (record (new_place i) { look = look_by passes i peer })) q
 unfolding with_looks with_look
 opened_place places s i peer true true opens told stays is q = rw told (same_place places s _ is q)
 opened_place places s i peer true false opens told stays is q = absurd (true≢false (sym (stays refl)))
@@ -163,7 +163,7 @@ module _ (x : End) (ok : LooksAreTrue x) where
     there : at x.tunnels i ≡ Some t
     peer : c.peer ≡ t.control.peer
     only : (j : ℕ) (u : Tunnel) → at x.tunnels j ≡ Some u → (j ≡ i → ⊥) → (d : Call) → at u.calls s ≡ Some d → ⊥
-    calls : (q : ℕ) → at y.calls q ≡ at (put x.calls s (record { tunnel = i; look = look_of k i t.control.peer })) q
+    calls : (q : ℕ) → at y.calls q ≡ at (put x.calls s (record (new_place i) { look = look_of k i t.control.peer })) q
     ids : y.tunnel_ids ≡ x.tunnel_ids
     role : y.role ≡ x.role
     fits : LinkFits x.role k.state k.link
@@ -175,7 +175,7 @@ module _ (x : End) (ok : LooksAreTrue x) where
     u = record t { control = c; letters = ls; calls = put t.calls s k }
 
     abbrev place : CallPlace
-    place = record { tunnel = i; look = look_of k i t.control.peer }
+    place = record (new_place i) { look = look_of k i t.control.peer }
 
     there_now : at y.tunnels i ≡ Some u
     there_now = rw sets.tunnels (at_new x.tunnels i u)
@@ -195,14 +195,14 @@ module _ (x : End) (ok : LooksAreTrue x) where
         (λ a. live_other q p a.0 a.1)
         (found_put x.calls s place q p (sym (sets.calls q) ∙ f))
 
-    seen_here : (q : ℕ) (d : Call) → at (put t.calls s k) q ≡ Some d → at y.calls q ≡ Some (record { tunnel = i; look = look_of d i c.peer })
+    seen_here : (q : ℕ) (d : Call) → at (put t.calls s k) q ≡ Some d → at y.calls q ≡ Some (record (new_place i) { look = look_of d i c.peer })
     seen_here q d g = ⊎_elim
         (λ (a : (q ≡ s) × (k ≡ d)). rw (← a.1, a.0, sets.peer) (sets.calls s ∙ at_new x.calls s place))
         (λ a. rw sets.peer (sets.calls q ∙ at_other x.calls s place q a.0 ∙ ok.seen i t sets.there q d a.1))
         (found_put t.calls s k q d g)
 
     seen_there : (j : ℕ) (v : Tunnel) → at x.tunnels j ≡ Some v → (j ≡ i → ⊥) → (q : ℕ) (d : Call) → at v.calls q ≡ Some d
-        → at y.calls q ≡ Some (record { tunnel = j; look = look_of d j v.control.peer })
+        → at y.calls q ≡ Some (record (new_place j) { look = look_of d j v.control.peer })
     seen_there j v f o q d g =
         let other : q ≡ s → ⊥ = λ e. sets.only j v f o d (subst (λ n. at v.calls n ≡ Some d) e g) in
         sets.calls q ∙ at_other x.calls s place q other ∙ ok.seen j v f q d g
@@ -229,7 +229,7 @@ module _ (x : End) (ok : LooksAreTrue x) where
 
   -- the place of a call in a tunnel
   abbrev seen_in : ℕ → Tunnel → Call → CallPlace
-  seen_in j u d = record { tunnel = j; look = look_of d j u.control.peer }
+  seen_in j u d = record (new_place j) { look = look_of d j u.control.peer }
 
   -- no other tunnel has a call that is in this one
   one_tunnel : (i : ℕ) (t : Tunnel) → at x.tunnels i ≡ Some t → (s : ℕ) (c : Call) → at t.calls s ≡ Some c → (j : ℕ) (u : Tunnel)
@@ -277,7 +277,7 @@ module _ (x : End) (ok : LooksAreTrue x) where
     place_still : (q : ℕ) (p : CallPlace) → (q ≡ s → ⊥) → at x.calls q ≡ Some p → at y.calls q ≡ Some p
     place_still q p o f = rw ends.calls (at_without_other x.calls s q o ∙ f)
 
-    seen_rest : (q : ℕ) (d : Call) → (q ≡ s → ⊥) × (at t.calls q ≡ Some d) → at y.calls q ≡ Some (record { tunnel = i; look = look_of d i c.peer })
+    seen_rest : (q : ℕ) (d : Call) → (q ≡ s → ⊥) × (at t.calls q ≡ Some d) → at y.calls q ≡ Some (record (new_place i) { look = look_of d i c.peer })
     seen_rest q d f = rw ends.peer (place_still q _ f.0 (ok.seen i t ends.there q d f.1))
 
     seen_apart : (j : ℕ) (v : Tunnel) → at x.tunnels j ≡ Some v → (j ≡ i → ⊥) → (q : ℕ) (d : Call) → at v.calls q ≡ Some d
@@ -436,8 +436,8 @@ module _ (x : End) (ok : LooksAreTrue x) where
       let state = connected_state x.role h.call.state h.row in
       let lac = connection_is_lac x.role h.call.state h.row in
       let none = lac_has_none x.role h.call.state h.call.link lac (ok.links m.tunnel h.tunnel h.there m.session h.call h.asked) in
-      let bound : at x.calls m.session ≡ Some (record { tunnel = m.tunnel; look = look.Bound m.tunnel h.tunnel.control.peer }) =
-      seen ∙ ap (λ q. Some (record { tunnel = m.tunnel; look = look_in_state q h.call.link m.tunnel h.tunnel.control.peer })) state.0 in
+      let bound : at x.calls m.session ≡ Some (record (new_place m.tunnel) { look = look.Bound m.tunnel h.tunnel.control.peer }) =
+      seen ∙ ap (λ q. Some (record (new_place m.tunnel) { look = look_in_state q h.call.link m.tunnel h.tunnel.control.peer })) state.0 in
       call_put y m.tunnel h.tunnel _ _ m.session (advanced x.role call_event.IcrpAcc moment (record h.call { remote = m.remote })) (record {
         tunnels = ap (λ (e : End). e.tunnels) h.after;
         there = h.there;
@@ -518,7 +518,7 @@ module _ (x : End) (ok : LooksAreTrue x) where
       let state = up_state h.call.state h.up in
       let v = turn_at h.calls.by h.calls.link in
       let tells = each_tells_opening h.calls.by.env h.calls.by.call h.calls.link in
-      let seen_so : at x.calls m.session ≡ Some (record { tunnel = m.tunnel; look = look_by h.calls.link.network m.tunnel h.tunnel.control.peer }) =
+      let seen_so : at x.calls m.session ≡ Some (record (new_place m.tunnel) { look = look_by h.calls.link.network m.tunnel h.tunnel.control.peer }) =
       seen ∙ rw (state, h.calls.has) refl in
       let places = ap (λ (e : End). e.calls) h.after in
       call_put y m.tunnel h.tunnel _ _ m.session (with_link v.link h.call) (record {

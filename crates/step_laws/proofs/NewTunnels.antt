@@ -40,7 +40,8 @@ use Rattle.end_names.specs.declared.role.Role.{Role}
 use Rattle.end_names.specs.declared.role.Role.TheVariants.{Lac, Lns}
 use Rattle.end_model.specs.declared.out.Out.TheVariants.{Cause}
 use Rattle.session_looks.specs.Frames.{header_why}
-use Rattle.end_model.specs.Reading.{body_of, message_in, CallFault, call_fault_in, TunnelFault, tunnel_fault_in}
+use Rattle.l2tp_header.specs.Reading.{body_of}
+use Rattle.end_model.specs.Reading.{message_in, CallFault, call_fault_in, TunnelFault, tunnel_fault_in}
 use Rattle.end_model.specs.Calls.{call_row, advanced, rung, asked_for, is_request, is_connection, is_up, are_too_many, is_clean_up, is_short, is_long}
 use Rattle.end_model.specs.Stopping.{rejects, rejected, shut, shuts, closed_told, closes_tunnel, closed_by, shuts_by}
 use Rattle.end_model.specs.Messages.{connected_reason, connected_event, event_by, opening_reason, Told, told_by}
@@ -137,7 +138,7 @@ heard_new role c bytes (Err x) t idle none = drops_new (header_why x) t none
 heard_new role c bytes (Ok k) t idle none =
     branch IsNew k.control _ _
     (λ control. branch IsNew (state_number t.control.state == 0) _ _
-    (λ is. let u = first_said role c (message_in (body_of k bytes)) t in new_settled [] u (first_said_new role c (message_in (body_of k bytes)) t none))
+    (λ is. let u = first_said role c (message_in (body_of bytes k)) t in new_settled [] u (first_said_new role c (message_in (body_of bytes k)) t none))
     (λ busy. absurd (eqb-false (state_number t.control.state) 0 busy idle)))
     (λ data_is. drops_new why.Session t none)
 

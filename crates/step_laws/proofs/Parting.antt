@@ -12,7 +12,7 @@ use Rattle.wire_base.specs.declared.cause.Cause.TheVariants as cause
 use Rattle.wire_base.specs.declared.letter.Letter.{Letter}
 use Rattle.l2tp_header.specs.declared.header.Header.{Header}
 use Rattle.l2tp_header.specs.declared.header.HeaderError.{HeaderError}
-use Rattle.l2tp_header.specs.Reading.{header_of}
+use Rattle.l2tp_header.specs.Reading.{header_of, body_of}
 use Rattle.control_message.specs.declared.message.Message.{Message}
 use Rattle.control_message.specs.declared.message.Message.TheVariants.{Sccrq, Sccrp, Scccn, StopCcn, Hello, Ocrq, Ocrp, Occn, Icrq, Icrp, Iccn, Cdn, Wen, Sli, Fsq, Fsr}
 use Rattle.control_message.specs.declared.kind.Kind.{Kind}
@@ -43,7 +43,7 @@ use Rattle.call_link.specs.Link.{Link, is_due}
 use Rattle.end_model.specs.declared.event.Event.{Event}
 use Rattle.end_model.specs.declared.event.Event.TheVariants.{Datagram, Ring, Payload, Lower, Lcp, Hang, OpenTunnel, DropCall, CloseTunnel, Tick, Admitted, Frame}
 use Rattle.end_model.specs.declared.out.Out.TheVariants.{Gone, Cause as Refused}
-use Rattle.end_model.specs.Reading.{body_of, message_in, CallFault, call_fault_in, TunnelFault, tunnel_fault_in}
+use Rattle.end_model.specs.Reading.{message_in, CallFault, call_fault_in, TunnelFault, tunnel_fault_in}
 use Rattle.end_model.specs.Calls.{counted_all, row_for, row_of_none, is_set_up, is_connection, is_up, is_clean_up}
 use Rattle.end_model.specs.Tunnels.{Turn}
 use Rattle.end_model.specs.Stopping.{rejects, rejected, shuts, closed_told, closes_tunnel, closed_by, shuts_by}
@@ -461,7 +461,7 @@ module _ (calls : List (ℕ × Call)) where
     datagram_parts role c letters bytes (Err x) t h = parts_none _ (dropped [] (header_why x) t h)
     datagram_parts role c letters bytes (Ok k) t h =
         branch Parts k.control _ _
-        (λ control. control_parts role c letters k (body_of k bytes) t h)
+        (λ control. control_parts role c letters k (body_of bytes k) t h)
         (λ data_is. parts_none _ (dropped [] why.Session t h))
 
     -- ---- time

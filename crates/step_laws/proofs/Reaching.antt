@@ -13,7 +13,8 @@ use Rattle.end_model.specs.declared.event.Event.TheVariants.{Datagram}
 use Rattle.end_model.specs.declared.event.Addressee.TheVariants.{Main}
 use Rattle.end_model.specs.declared.moves.Move.{Move}
 use Rattle.end_model.specs.declared.out.Out.{Out}
-use Rattle.end_model.specs.Reading.{body_of, at_tunnel}
+use Rattle.l2tp_header.specs.Reading.{body_of}
+use Rattle.end_model.specs.Reading.{at_tunnel}
 use Rattle.end_model.specs.Tunnels.{Env, Turn, Tunnel, turn_of}
 use Rattle.end_model.specs.Sending.{reads_nr, settles}
 use Rattle.end_model.specs.Hearing.{hears_letter, in_tunnel, hears_control, hears_datagram}
@@ -38,7 +39,7 @@ module _ (e : End) (kept : AreKept e) (moment : ℕ) (block : List ℕ) (ev : Ev
   abbrev bytes : List ℕ
   bytes = next.comes.came.bytes
 
-  body_is : body ≡ body_of header bytes
+  body_is : body ≡ body_of bytes header
   body_is = next.comes.came.body_is
 
   abbrev Right : Turn → Type 0

@@ -4,7 +4,7 @@ use Rattle.std.proofs.lemmas.Option.{none-some}
 use Rattle.id_table.specs.Ids.{at, at-none}
 use Rattle.wire_base.specs.declared.letter.Side.TheVariants as side
 use Rattle.l2tp_header.specs.declared.header.Header.{Header}
-use Rattle.l2tp_header.specs.Reading.{header_of}
+use Rattle.l2tp_header.specs.Reading.{header_of, body_of}
 use Rattle.call_fsm.specs.declared.table.CallState.{CallState}
 use Rattle.call_fsm.specs.declared.table.CallState.TheVariants as call
 use Rattle.end_model.specs.declared.event.Event.{Event}
@@ -16,11 +16,10 @@ use Rattle.call_link.specs.Link.{Link}
 use Rattle.session_looks.specs.declared.look.Look.{Look}
 use Rattle.session_looks.specs.declared.look.Look.TheVariants as look
 use Rattle.end_names.specs.declared.role.Role.{Role}
-use Rattle.end_model.specs.Reading.{body_of}
 use Rattle.session_looks.specs.Frames.{frame_of, side_of, Upward, carry_look}
 use Rattle.end_model.specs.Links.{is_passing}
 use Rattle.end_model.specs.Tunnels.{Ground, Tunnel}
-use Rattle.end_model.specs.End.{End, env_of, look_in, plain_step}
+use Rattle.end_model.specs.End.{End, env_of, look_in, plain_step, new_place}
 use Rattle.step_laws.specs.Links.{HearsFrame, HearsLcp, Passes, AsAll, AsLcp}
 use Rattle.step_laws.specs.Looks.{LooksAreTrue, look_by, look_in_state, look_of}
 use Rattle.step_laws.specs.Steps.{AreKept}
@@ -90,7 +89,7 @@ module _ (e : End) (kept : AreKept e) (looks : LooksAreTrue e) (moment : ℕ) (b
   -- a frame of LCP that is handed up came from the peer of its tunnel
   handed_allowed : (peer : ℕ) (bytes : List ℕ) (h : Header) → ev ≡ Datagram peer bytes → header_of bytes ≡ Ok h → h.control ≡ false
       → (tunnel of : ℕ) (frame : List ℕ)
-      → carry_look e.role (look_in (at e.calls h.session)) peer h (frame_of (body_of h bytes)) ≡ Upward tunnel of side.Lcp frame
+      → carry_look e.role (look_in (at e.calls h.session)) peer h (frame_of (body_of bytes h)) ≡ Upward tunnel of side.Lcp frame
       → (t : Tunnel) → at e.tunnels tunnel ≡ Some t → Allows F on e.role t.calls (Lcp h.session frame)
   handed_allowed peer bytes h is read data_is tunnel of frame up t there =
       allowed tunnel t there (Lcp h.session frame)
@@ -102,8 +101,8 @@ module _ (e : End) (kept : AreKept e) (looks : LooksAreTrue e) (moment : ℕ) (b
       subst (λ q. HearsLcp ev t.control.peer t.control.local q f) session
       (subst (λ q. HearsLcp ev t.control.peer t.control.local h.session q) frames (inr (hears, side_lcp e.role frame (sym found.3)))))
     where
-      found : (tunnel ≡ h.tunnel) × (of ≡ peer) × (frame ≡ frame_of (body_of h bytes)) × (side.Lcp ≡ side_of e.role frame) × Passes e.role (look_in (at e.calls h.session)) tunnel of frame
-      found = (look_is e.role (look_in (at e.calls h.session)) peer h (frame_of (body_of h bytes))).up tunnel of side.Lcp frame up
+      found : (tunnel ≡ h.tunnel) × (of ≡ peer) × (frame ≡ frame_of (body_of bytes h)) × (side.Lcp ≡ side_of e.role frame) × Passes e.role (look_in (at e.calls h.session)) tunnel of frame
+      found = (look_is e.role (look_in (at e.calls h.session)) peer h (frame_of (body_of bytes h))).up tunnel of side.Lcp frame up
 
       seen : IsSeen e.role e.calls h.session tunnel of frame
       seen = place_seen e.role e.calls h.session tunnel of frame (at e.calls h.session) refl found.4
@@ -111,7 +110,7 @@ module _ (e : End) (kept : AreKept e) (looks : LooksAreTrue e) (moment : ℕ) (b
       goes : of ≡ t.control.peer
       goes =
           let live = looks.live h.session seen.place seen.there in
-          let both : Some seen.place ≡ Some (record { tunnel = seen.place.tunnel; look = look_of live.call seen.place.tunnel live.tunnel.control.peer }) =
+          let both : Some seen.place ≡ Some (record (new_place seen.place.tunnel) { look = look_of live.call seen.place.tunnel live.tunnel.control.peer }) =
           sym seen.there ∙ looks.seen seen.place.tunnel live.tunnel live.there h.session live.call live.live in
           let look_is : seen.place.look ≡ look_of live.call seen.place.tunnel live.tunnel.control.peer = ap (λ (o : Option CallPlace). look_in o) both in
           let leads = passes_leads e.role seen.place.look tunnel of seen.place.tunnel live.tunnel.control.peer frame seen.seen

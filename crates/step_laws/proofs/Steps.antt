@@ -12,7 +12,7 @@ use Rattle.wire_base.specs.declared.letter.Side.{Side}
 use Rattle.wire_base.specs.declared.letter.Side.TheVariants as side
 use Rattle.l2tp_header.specs.declared.header.Header.{Header}
 use Rattle.l2tp_header.specs.declared.header.HeaderError.{HeaderError}
-use Rattle.l2tp_header.specs.Reading.{header_of}
+use Rattle.l2tp_header.specs.Reading.{header_of, body_of}
 use Rattle.tunnel_fsm.specs.declared.table.TunnelState.TheVariants.{WaitCtlReply, Established}
 use Rattle.tunnel_fsm.specs.Rows.{state_number}
 use Rattle.end_model.specs.declared.tunnel.CallPlace.{CallPlace}
@@ -29,7 +29,7 @@ use Rattle.end_model.specs.declared.out.Out.TheVariants.{Up, Drop, Cause}
 use Rattle.end_model.specs.declared.moves.Move.{Move}
 use Rattle.end_model.specs.declared.moves.Move.TheVariants as move
 use Rattle.session_looks.specs.Frames.{header_why, frame_of, is_lcp, is_for_lcp, lns_side, side_of, Carried, Upward, Dropped, carry_known, carry_look}
-use Rattle.end_model.specs.Reading.{body_of, at_zero, at_tunnel}
+use Rattle.end_model.specs.Reading.{at_zero, at_tunnel}
 use Rattle.end_model.specs.Calls.{is_lac}
 use Rattle.end_model.specs.Tunnels.{Tunnel, Env}
 use Rattle.end_model.specs.Events.{turns}
@@ -170,7 +170,7 @@ module _ (e : End) (kept : AreKept e) (moment : ℕ) (block : List ℕ) where
   then_chain ev s peer tunnel frame side.Lcp hears = lcp_heard ev s peer tunnel frame (at e.tunnels tunnel) refl (hears refl)
 
   handed_chain : (from : ℕ) (bytes : List ℕ) (h : Header) → header_of bytes ≡ Ok h → h.control ≡ false → (c : Carried)
-      → IsOf e.role (look_in (at e.calls h.session)) h.tunnel from (frame_of (body_of h bytes)) c
+      → IsOf e.role (look_in (at e.calls h.session)) h.tunnel from (frame_of (body_of bytes h)) c
       → IsStep e moment (Datagram from bytes) (handed e env h.session c)
   unfolding handed
   handed_chain from bytes h read data_is (Dropped w) is = drop_chain e kept moment (Datagram from bytes) w (is.down w refl)
@@ -244,14 +244,14 @@ module _ (e : End) (kept : AreKept e) (moment : ℕ) (block : List ℕ) where
 
   module _ (peer : ℕ) (bytes : List ℕ) (h : Header) (read : header_of bytes ≡ Ok h) (control : h.control ≡ true) where
     abbrev leads : Addressee → Type 0
-    leads a = IsStep e moment (Datagram peer bytes) (for_addressee e env (Datagram peer bytes) peer h (body_of h bytes) a)
+    leads a = IsStep e moment (Datagram peer bytes) (for_addressee e env (Datagram peer bytes) peer h (body_of bytes h) a)
 
     nobody : (w : Why) → (w ≡ why.Queue → ⊥) → leads (Nobody w)
     unfolding for_addressee
     nobody w other = drop_chain e kept moment (Datagram peer bytes) w other
 
     -- an SCCRQ opens a tunnel or is declined, or comes again to the one that it opened
-    opened_leads : h.tunnel ≡ 0 → (remote : ℕ) → at_zero (body_of h bytes) ≡ Opens remote → (remote ≡ 0 → ⊥) → SaysOpening (body_of h bytes) remote
+    opened_leads : h.tunnel ≡ 0 → (remote : ℕ) → at_zero (body_of bytes h) ≡ Opens remote → (remote ≡ 0 → ⊥) → SaysOpening (body_of bytes h) remote
         → (k : Option ℕ) → known_as peer remote e.tunnels ≡ k → leads (opened_before remote k)
     unfolding for_addressee known_as
     opened_leads zero remote opens some says None is =
@@ -262,7 +262,7 @@ module _ (e : End) (kept : AreKept e) (moment : ℕ) (block : List ℕ) where
         (λ t there. inr (inl (record { none = zero; opens = opens ∙ ap Opens (sym (known_remote peer remote (at e.tunnels i) known t there)) })))
 
     -- a StopCCN is for the tunnel whose peer assigned the id that it tells
-    stopped_leads : h.tunnel ≡ 0 → (remote : ℕ) → at_zero (body_of h bytes) ≡ Stops remote → (k : Option ℕ) → known_as peer remote e.tunnels ≡ k
+    stopped_leads : h.tunnel ≡ 0 → (remote : ℕ) → at_zero (body_of bytes h) ≡ Stops remote → (k : Option ℕ) → known_as peer remote e.tunnels ≡ k
         → leads (stopped_at k)
     unfolding for_addressee known_as
     stopped_leads zero remote says None is = nobody why.Tunnel (λ q. absurd cc)
@@ -272,11 +272,11 @@ module _ (e : End) (kept : AreKept e) (moment : ℕ) (block : List ℕ) where
         (λ t there. inr (inr (record { none = zero; stops = says ∙ ap Stops (sym (known_remote peer remote (at e.tunnels i) known t there)) })))
 
     -- an SCCRP is declined
-    answered_leads : h.tunnel ≡ 0 → (remote : ℕ) → at_zero (body_of h bytes) ≡ Answers remote → (remote ≡ 0 → ⊥) → leads (Answers remote)
+    answered_leads : h.tunnel ≡ 0 → (remote : ℕ) → at_zero (body_of bytes h) ≡ Answers remote → (remote ≡ 0 → ⊥) → leads (Answers remote)
     unfolding for_addressee
     answered_leads zero remote is some = answer_chain e kept moment peer bytes h read control zero remote some is
 
-    zero_leads : h.tunnel ≡ 0 → (a : Addressee) → at_zero (body_of h bytes) ≡ a → ZeroSays (body_of h bytes) a → leads (opens_once e peer a)
+    zero_leads : h.tunnel ≡ 0 → (a : Addressee) → at_zero (body_of bytes h) ≡ a → ZeroSays (body_of bytes h) a → leads (opens_once e peer a)
     unfolding opens_once
     zero_leads zero (Opens remote) is says = opened_leads zero remote is says.0 says.1 (known_as peer remote e.tunnels) refl
     zero_leads zero (Stops remote) is says = stopped_leads zero remote is (known_as peer remote e.tunnels) refl
@@ -294,11 +294,11 @@ module _ (e : End) (kept : AreKept e) (moment : ℕ) (block : List ℕ) where
         ap (λ (x : Tunnel). x.control.peer) (sym same) ∙ eqb-true t.control.peer peer met) (λ u found. inl refl))
         (λ other. nobody why.Peer (λ q. absurd cc))
 
-    addressed_leads : leads (addressed e peer h (body_of h bytes))
+    addressed_leads : leads (addressed e peer h (body_of bytes h))
     unfolding addressed
     addressed_leads =
         branch leads (h.tunnel == 0) _ _
-        (λ zero. zero_leads (eqb-true h.tunnel 0 zero) (at_zero (body_of h bytes)) refl (zero_says (body_of h bytes)))
+        (λ zero. zero_leads (eqb-true h.tunnel 0 zero) (at_zero (body_of bytes h)) refl (zero_says (body_of bytes h)))
         (λ some. tunnel_leads (at e.tunnels h.tunnel) refl)
 
   received : (peer : ℕ) (bytes : List ℕ) (r : Result Header HeaderError) → header_of bytes ≡ r → IsStep e moment (Datagram peer bytes) (receives e env peer bytes r)
@@ -307,7 +307,7 @@ module _ (e : End) (kept : AreKept e) (moment : ℕ) (block : List ℕ) where
   received peer bytes (Ok h) read =
       branch (IsStep e moment (Datagram peer bytes)) h.control _ _
       (λ control. addressed_leads peer bytes h read control)
-      (λ data_is. handed_chain peer bytes h read data_is _ (look_is e.role (look_in (at e.calls h.session)) peer h (frame_of (body_of h bytes))))
+      (λ data_is. handed_chain peer bytes h read data_is _ (look_is e.role (look_in (at e.calls h.session)) peer h (frame_of (body_of bytes h))))
 
   -- ---- rings, opens and frames
 

@@ -23,7 +23,7 @@ use Rattle.call_link.specs.Laws.{LinkStep, turn_at}
 use Rattle.end_model.specs.declared.event.Event.TheVariants.{Tick}
 use Rattle.end_model.specs.declared.moves.Move.TheVariants as move
 use Rattle.end_model.specs.Calls.{row_for, is_set_up, is_up}
-use Rattle.end_model.specs.Tunnels.{Tunnel, Turn}
+use Rattle.end_model.specs.Tunnels.{Tunnel, Turn, new_tunnel}
 use Rattle.end_model.specs.Turn.{with_move}
 use Rattle.end_model.specs.Events.{with_calls, tunnel_after}
 use Rattle.end_model.specs.Channels.{has_room, place, next_place, letter_of, counts_repeated}
@@ -34,7 +34,7 @@ use Rattle.end_model.specs.Closing.{ends_by}
 use Rattle.end_model.specs.Links.{link_env}
 use Rattle.end_model.specs.Linking.{links, ticks_link}
 use Rattle.end_model.specs.End.{drawing_of, End}
-use Rattle.step_laws.specs.Moves.{TookTooLong, IsLate, new_tunnel}
+use Rattle.step_laws.specs.Moves.{TookTooLong, IsLate}
 use Rattle.step_laws.proofs.Lists.{all_push, and_left, and_right, branch, chain_more}
 use Rattle.step_laws.proofs.Moments.{passed, not_up}
 use Rattle.step_laws.proofs.Owing.{Fits, live_open, some_owed, fits_given, owes_told}

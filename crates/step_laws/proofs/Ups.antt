@@ -9,7 +9,7 @@ use Rattle.wire_base.specs.declared.cause.Cause.{Cause as CauseOf}
 use Rattle.wire_base.specs.declared.cause.Cause.TheVariants as cause
 use Rattle.l2tp_header.specs.declared.header.Header.{Header}
 use Rattle.l2tp_header.specs.declared.header.HeaderError.{HeaderError}
-use Rattle.l2tp_header.specs.Reading.{header_of}
+use Rattle.l2tp_header.specs.Reading.{header_of, body_of}
 use Rattle.tunnel_fsm.specs.declared.table.TunnelState.TheVariants.{WaitCtlReply, Established}
 use Rattle.end_model.specs.declared.tunnel.CallPlace.{CallPlace}
 use Rattle.end_names.specs.declared.role.Role.{Role}
@@ -24,7 +24,6 @@ use Rattle.end_model.specs.declared.event.Event.TheVariants.{Datagram, Ring, Pay
 use Rattle.end_model.specs.declared.out.Out.{Out}
 use Rattle.end_model.specs.declared.out.Out.TheVariants.{Up, Drop, Cause}
 use Rattle.session_looks.specs.Frames.{header_why, frame_of, Carried, Upward, Dropped, carry_look}
-use Rattle.end_model.specs.Reading.{body_of}
 use Rattle.end_model.specs.Calls.{is_lac}
 use Rattle.end_model.specs.Tunnels.{Ground, Tunnel, Env, turn_of}
 use Rattle.end_model.specs.Reasons.{Reason, out_of_order}
@@ -67,7 +66,7 @@ module _ (e : End) (moment : ℕ) (block : List ℕ) (F : ℕ → List ℕ → T
     pub made : Allows F env.on e.role [] ev
     pub handed : (peer : ℕ) (bytes : List ℕ) (h : Header) → ev ≡ Datagram peer bytes → header_of bytes ≡ Ok h → h.control ≡ false
         → (tunnel of : ℕ) (frame : List ℕ)
-        → carry_look e.role (look_in (at e.calls h.session)) peer h (frame_of (body_of h bytes)) ≡ Upward tunnel of side.Lcp frame
+        → carry_look e.role (look_in (at e.calls h.session)) peer h (frame_of (body_of bytes h)) ≡ Upward tunnel of side.Lcp frame
         → (t : Tunnel) → at e.tunnels tunnel ≡ Some t → Allows F env.on e.role t.calls (Lcp h.session frame)
 
   abbrev Told : Event → Stepped → Type 0
@@ -131,7 +130,7 @@ module _ (e : End) (moment : ℕ) (block : List ℕ) (F : ℕ → List ℕ → T
 
   module _ (peer : ℕ) (bytes : List ℕ) (may : MaySend (Datagram peer bytes)) where
     handed_told : (h : Header) → header_of bytes ≡ Ok h → h.control ≡ false → (c : Carried)
-        → carry_look e.role (look_in (at e.calls h.session)) peer h (frame_of (body_of h bytes)) ≡ c → Told (Datagram peer bytes) (handed e env h.session c)
+        → carry_look e.role (look_in (at e.calls h.session)) peer h (frame_of (body_of bytes h)) ≡ c → Told (Datagram peer bytes) (handed e env h.session c)
     unfolding handed
     handed_told h read data_is (Upward tunnel of x frame) is =
         let quiet = then_told tunnel h.session frame x
@@ -152,7 +151,7 @@ module _ (e : End) (moment : ℕ) (block : List ℕ) (F : ℕ → List ℕ → T
     received_told (Err x) read = dropped_told F (Datagram peer bytes) e (header_why x)
     received_told (Ok h) read =
         branch (Told (Datagram peer bytes)) h.control _ _
-        (λ control. addressee_told (Datagram peer bytes) may peer h (body_of h bytes) (addressed e peer h (body_of h bytes)))
+        (λ control. addressee_told (Datagram peer bytes) may peer h (body_of bytes h) (addressed e peer h (body_of bytes h)))
         (λ data_is. handed_told h read data_is _ refl)
 
   -- ---- rings and calls

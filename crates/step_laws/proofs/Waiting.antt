@@ -10,7 +10,7 @@ use Rattle.id_table.specs.Ids.{at, at-none}
 use Rattle.wire_base.specs.declared.letter.Letter.{Letter}
 use Rattle.l2tp_header.specs.declared.header.Header.{Header}
 use Rattle.l2tp_header.specs.declared.header.HeaderError.{HeaderError}
-use Rattle.l2tp_header.specs.Reading.{header_of}
+use Rattle.l2tp_header.specs.Reading.{header_of, body_of}
 use Rattle.tunnel_fsm.specs.declared.table.TunnelState.TheVariants.{WaitCtlReply, Established}
 use Rattle.tunnel_fsm.specs.declared.table.TunnelEvent.TheVariants as tunnel_event
 use Rattle.tunnel_fsm.specs.Rows.{rows, row_of, state_number}
@@ -29,7 +29,6 @@ use Rattle.wire_base.specs.declared.letter.Side.TheVariants as side
 use Rattle.end_model.specs.declared.event.Event.TheVariants.{Datagram, Ring, Payload, Lower, Lcp, Hang, OpenTunnel, DropCall, CloseTunnel, Tick, Admitted, Frame}
 use Rattle.end_model.specs.declared.out.Out.{Out}
 use Rattle.end_model.specs.declared.out.Out.TheVariants.{Cause as Refused}
-use Rattle.end_model.specs.Reading.{body_of}
 use Rattle.session_looks.specs.Frames.{Carried, Upward, Dropped}
 use Rattle.end_model.specs.Calls.{call_row, is_lac}
 use Rattle.end_model.specs.Tunnels.{Tunnel, Env, Turn, turn_of}
@@ -164,7 +163,7 @@ module _ (e : End) (kept : AreKept e) (none : NoneWaits e) (moment : ℕ) (block
   received_asked peer bytes (Err x) = only_asked _
   received_asked peer bytes (Ok h) =
       branch AllAsked h.control _ _
-      (λ control. addressee_asked peer bytes h (body_of h bytes) (addressed e peer h (body_of h bytes)))
+      (λ control. addressee_asked peer bytes h (body_of bytes h) (addressed e peer h (body_of bytes h)))
       (λ data_is. handed_asked h.session _)
 
   -- ---- rings and frames

@@ -1,7 +1,7 @@
 -- What came to an end: a control message, whom it is for, and what it says.
 use Rattle.std.specs.Prelude.{◌≡◌, refl, ℕ, ◌⊎◌, true, List, length, Some, unwrap_or, Ok}
 use Rattle.l2tp_header.specs.declared.header.Header.{Header}
-use Rattle.l2tp_header.specs.Reading.{header_of}
+use Rattle.l2tp_header.specs.Reading.{header_of, body_of}
 use Rattle.control_message.specs.declared.message.Message.{Message}
 use Rattle.recv_window.specs.declared.Class.TheVariants.{Next}
 use Rattle.recv_window.specs.Window.{class_of}
@@ -10,7 +10,7 @@ use Rattle.end_model.specs.declared.event.Event.{Event}
 use Rattle.end_model.specs.declared.event.Event.TheVariants.{Datagram}
 use Rattle.end_model.specs.declared.event.Addressee.TheVariants.{Stops}
 use Rattle.end_model.specs.declared.event.Addressee.TheVariants as addressee
-use Rattle.end_model.specs.Reading.{body_of, message_in, CallFault, call_fault_in, at_zero}
+use Rattle.end_model.specs.Reading.{message_in, CallFault, call_fault_in, at_zero}
 use Rattle.end_model.specs.Tunnels.{Tunnel}
 
 -- a control message as an end has it: who sent it, its header, and what follows the header
@@ -25,7 +25,7 @@ pub record CameIn (ev : Event) (k : Came) : Type 0 where
   pub is : ev ≡ Datagram k.peer bytes
   pub read : header_of bytes ≡ Ok k.header
   pub control : k.header.control ≡ true
-  pub body_is : k.body ≡ body_of k.header bytes
+  pub body_is : k.body ≡ body_of bytes k.header
 
 -- it says this, with the session id of its header
 pub record Says (k : Came) (session : ℕ) (m : Message) : Type 0 where

@@ -22,13 +22,13 @@ use Rattle.end_model.specs.declared.event.Event.{Event}
 use Rattle.end_model.specs.declared.event.Event.TheVariants.{Datagram, Hang, OpenTunnel, DropCall, CloseTunnel}
 use Rattle.end_model.specs.declared.out.Out.TheVariants.{Cause}
 use Rattle.end_model.specs.declared.tunnel.Call.{Call}
-use Rattle.end_model.specs.Reading.{body_of, message_in, at_zero}
+use Rattle.end_model.specs.Reading.{message_in, at_zero}
 use Rattle.end_model.specs.Calls.{row_for, is_told}
 use Rattle.end_model.specs.Tunnels.{Tunnel}
 use Rattle.end_model.specs.Messages.{is_acceptable}
 use Rattle.end_model.specs.declared.event.Addressee.TheVariants.{Opens, Answers}
 use Rattle.l2tp_header.specs.declared.header.Header.{Header}
-use Rattle.l2tp_header.specs.Reading.{header_of}
+use Rattle.l2tp_header.specs.Reading.{header_of, body_of}
 use Rattle.end_model.specs.End.{End, plain_step}
 use Rattle.step_laws.specs.Letters.{Among}
 use Rattle.step_laws.specs.Moves.{has_all_tunnels, has_all_calls, may_take, IsIdInUse, IsRight, LacksSecret, IsUnknown, TookTooLong, Came, IsNext, HearsNext}
@@ -152,7 +152,7 @@ pub record NamesNone (ev : Event) (peer : ℕ) (body : List ℕ) : Type 0 where
   pub read : header_of bytes ≡ Ok header
   pub control : header.control ≡ true
   pub none : header.tunnel ≡ 0
-  pub body_is : body ≡ body_of header bytes
+  pub body_is : body ≡ body_of bytes header
 
 -- an SCCRQ came that would open a tunnel: the peer's end has none here yet
 pub record WouldOpen (e : End) (ev : Event) (o : Opening) : Type 0 where

@@ -12,9 +12,8 @@ use Rattle.l2tp_header.specs.declared.header.HeaderError.{HeaderError}
 use Rattle.l2tp_header.specs.declared.header.HeaderError.TheVariants as header
 use Rattle.session_looks.specs.declared.look.Look.{Look}
 use Rattle.session_looks.specs.declared.look.Look.TheVariants as look
-use Rattle.l2tp_header.specs.Reading.{header_of}
+use Rattle.l2tp_header.specs.Reading.{header_of, body_of}
 use Rattle.session_looks.specs.Frames.{Carried, Upward, Dropped, carry_known, carry_look, frame_of, side_of, is_for_lcp, header_why}
-use Rattle.end_model.specs.Reading.{body_of}
 use Rattle.end_names.specs.Names.{address_of}
 use Rattle.end_names.specs.declared.role.Role.{Role}
 use Rattle.end_names.specs.declared.role.Role.TheVariants as role
@@ -227,7 +226,7 @@ pub record IsLoaded (w : World) (n : ℕ) (o : Option Packet) (f : Held) : Type 
   pub header : Header
   pub read : header_of packet.bytes ≡ Ok header
   pub plain : header.control ≡ false
-  pub carried : carry_look node.end.role (look_in (at node.end.calls header.session)) (address_of packet.from) header (frame_of (body_of header packet.bytes))
+  pub carried : carry_look node.end.role (look_in (at node.end.calls header.session)) (address_of packet.from) header (frame_of (body_of packet.bytes header))
       ≡ Upward f.tunnel f.peer f.side f.frame
   pub session : f.session ≡ header.session
   pub birth : f.birth ≡ birth_of w n header.session
@@ -269,7 +268,7 @@ pub record OfLoad (P : Lined → Type 0) (w : World) (number n : ℕ) (o : Optio
 module _ (P : Lined → Type 0) (w : World) (number n : ℕ) (o : Option Packet) (of : OfLoad P w number n o) (x : Lined) where
   module _ (node : Node) (there : at w.nodes n ≡ Some node) (up : node.up ≡ true) (p : Packet) (found : o ≡ Some p) (to : p.to ≡ n) where
     by_carried : (h : Header) → header_of p.bytes ≡ Ok h → h.control ≡ false → (c : Carried)
-        → carry_look node.end.role (look_in (at node.end.calls h.session)) (address_of p.from) h (frame_of (body_of h p.bytes)) ≡ c
+        → carry_look node.end.role (look_in (at node.end.calls h.session)) (address_of p.from) h (frame_of (body_of p.bytes h)) ≡ c
         → P (held_or_dropped w number n h.session c)
     unfolding held_or_dropped
     by_carried h read plain (Upward tunnel peer side frame) is =
@@ -287,13 +286,13 @@ module _ (P : Lined → Type 0) (w : World) (number n : ℕ) (o : Option Packet)
           session = refl;
           birth = refl;
         })
-    by_carried h read plain (Dropped word) is = of.dropped word (look_other node.end.role _ (address_of p.from) h (frame_of (body_of h p.bytes)) word is)
+    by_carried h read plain (Dropped word) is = of.dropped word (look_other node.end.role _ (address_of p.from) h (frame_of (body_of p.bytes h)) word is)
 
     by_header : (r : Result Header HeaderError) → header_of p.bytes ≡ r → loads_by w number n node.end (address_of p.from) p.bytes r ≡ Ok x → P x
     unfolding loads_by
     by_header (Err e) read h = let is : dropped_line w number n (header_why e) ≡ x = cc in subst P is (of.dropped (header_why e) (header_other e))
     by_header (Ok k) read h =
-        let l = held_or_dropped w number n k.session (carry_look node.end.role (look_in (at node.end.calls k.session)) (address_of p.from) k (frame_of (body_of k p.bytes))) in
+        let l = held_or_dropped w number n k.session (carry_look node.end.role (look_in (at node.end.calls k.session)) (address_of p.from) k (frame_of (body_of p.bytes k))) in
         let t = tested_not k.control l (Unfit why.Packet) x h in
         subst P t.1 (by_carried k read t.0 _ refl)
 

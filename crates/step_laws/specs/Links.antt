@@ -1,7 +1,7 @@
 -- Frames that come up a call and go down one, and what its link is called for (RFC 1661).
 use Rattle.std.specs.Prelude.{◌≡◌, ◌⊎◌, ℕ, true, false, List, Some, Ok}
 use Rattle.l2tp_header.specs.declared.header.Header.{Header}
-use Rattle.l2tp_header.specs.Reading.{header_of}
+use Rattle.l2tp_header.specs.Reading.{header_of, body_of}
 use Rattle.wire_base.specs.declared.cause.Cause.{Cause}
 use Rattle.call_link.specs.Link.{Link, new_link}
 use Rattle.call_link.specs.Turns.{Opens, Ticks, Hears}
@@ -14,7 +14,6 @@ use Rattle.session_looks.specs.declared.look.Look.{Look}
 use Rattle.session_looks.specs.declared.look.Look.TheVariants as look
 use Rattle.end_names.specs.declared.role.Role.{Role}
 use Rattle.end_names.specs.declared.role.Role.TheVariants.{Lns}
-use Rattle.end_model.specs.Reading.{body_of}
 use Rattle.session_looks.specs.Frames.{frame_of, is_lcp}
 use Rattle.end_model.specs.Links.{is_passing}
 use Rattle.step_laws.specs.Letters.{Among}
@@ -28,7 +27,7 @@ pub record HearsFrame (ev : Event) (peer tunnel session : ℕ) (frame : List ℕ
   pub data_is : header.control ≡ false
   pub tunnel_is : header.tunnel ≡ tunnel
   pub session_is : header.session ≡ session
-  pub frame_is : frame ≡ frame_of (body_of header bytes)
+  pub frame_is : frame ≡ frame_of (body_of bytes header)
 
 -- a frame of a peer for the link of a call, from its protocol field on
 abbrev pub HearsLcp : Event → ℕ → ℕ → ℕ → List ℕ → Type 0

@@ -14,7 +14,7 @@ use Rattle.end_names.specs.declared.role.Role.{Role}
 use Rattle.end_names.specs.declared.role.Role.TheVariants.{Lns}
 use Rattle.end_model.specs.Links.{is_passing}
 use Rattle.end_model.specs.Tunnels.{Tunnel}
-use Rattle.end_model.specs.End.{End, new_end, plain_step}
+use Rattle.end_model.specs.End.{End, new_end, plain_step, new_place}
 use Rattle.step_laws.specs.Steps.{AreKept}
 
 -- what is to be seen of an established call: frames of the network pass, at an LNS once LCP was open in it
@@ -51,7 +51,7 @@ pub record LooksAreTrue (e : End) : Type 0 where
   pub live : (s : ℕ) (p : CallPlace) → at e.calls s ≡ Some p → IsLive e p.tunnel s
   -- each live call has its place, and what is seen of it is so
   pub seen : (i : ℕ) (t : Tunnel) → at e.tunnels i ≡ Some t → (s : ℕ) (c : Call) → at t.calls s ≡ Some c
-      → at e.calls s ≡ Some (record { tunnel = i; look = look_of c i t.control.peer })
+      → at e.calls s ≡ Some (record (new_place i) { look = look_of c i t.control.peer })
   pub links : (i : ℕ) (t : Tunnel) → at e.tunnels i ≡ Some t → (s : ℕ) (c : Call) → at t.calls s ≡ Some c → LinkFits e.role c.state c.link
   -- ids that are in use were drawn
   pub tunnels : (i : ℕ) (t : Tunnel) → at e.tunnels i ≡ Some t → i < e.tunnel_ids.next

@@ -6,7 +6,7 @@ use Rattle.id_table.specs.Ids.{at, put, without, ids_of}
 use Rattle.id_source.specs.declared.IdError.{IdError}
 use Rattle.id_source.specs.Spaces.{takes_id, after_id}
 use Rattle.l2tp_header.specs.declared.header.Header.{Header}
-use Rattle.l2tp_header.specs.Reading.{header_of}
+use Rattle.l2tp_header.specs.Reading.{header_of, body_of}
 use Rattle.control_message.specs.declared.message.Message.{Message}
 use Rattle.control_message.specs.declared.message.Message.TheVariants.{Sccrq, Sccrp, Scccn, StopCcn, Hello, Ocrq, Ocrp, Occn, Icrq, Icrp, Iccn, Cdn, Wen, Sli, Fsq, Fsr}
 use Rattle.control_message.specs.declared.kind.Kind.{Kind}
@@ -65,10 +65,10 @@ use Rattle.end_model.specs.declared.moves.Move.{Move}
 use Rattle.end_model.specs.declared.moves.Move.TheVariants as move
 use Rattle.end_model.specs.declared.event.Addressee.TheVariants.{Answers}
 use Rattle.end_model.specs.declared.event.Addressee.TheVariants as addressee
-use Rattle.end_model.specs.Reading.{body_of, message_in, CallFault, call_fault_in, TunnelFault, tunnel_fault_in, at_zero}
+use Rattle.end_model.specs.Reading.{message_in, CallFault, call_fault_in, TunnelFault, tunnel_fault_in, at_zero}
 use Rattle.session_looks.specs.Frames.{side_of}
 use Rattle.end_model.specs.Calls.{row_for, row_of_none, advanced, with_numbers, number_of, counted, rung, asked_for, is_request, is_reply, is_connection, is_told, is_up, owed_by, is_clean_up}
-use Rattle.end_model.specs.Tunnels.{Tunnel}
+use Rattle.end_model.specs.Tunnels.{Tunnel, new_tunnel}
 use Rattle.end_model.specs.Channels.{place, next_place, taken_place, peer_window, letter_of, letter_as, counts_given, counts_taken, counts_acked, counts_sent, counts_repeated}
 use Rattle.end_model.specs.Openings.{in_state, fresh}
 use Rattle.end_model.specs.Messages.{flags_of, opening_of, request_of, connection, event_by}
@@ -121,10 +121,6 @@ with_letter session m t = record t { control = counts_given t.control; letters =
 -- one whose pairs hide a value, where they do
 abbrev pub with_letter_as : ℕ → Message → Option (List ℕ) → Tunnel → Tunnel
 with_letter_as session m hidden t = record t { control = counts_given t.control; letters = t.letters ++ letter_as session m hidden ∷ [] }
-
--- a tunnel that is new, before anything is given to its channel
-abbrev pub new_tunnel : Control → Tunnel
-new_tunnel c = record { control = c; letters = []; calls = [] }
 
 -- of these ids, in this state, made at a moment, with an empty channel and a window of 4 (RFC 2661 section 4.4.3), asking this
 abbrev pub begun : ℕ → ℕ → ℕ → TunnelState → ℕ → Option (List ℕ) → Control
@@ -465,7 +461,7 @@ pub record Declines (e : End) (ev : Event) (m : Declined) (x : End) : Type 0 whe
   pub none : header.tunnel ≡ 0
   pub nr : m.nr ≡ (unwrap_or header.ns 0 + 1) % 65536
   pub some : m.remote ≡ 0 → ⊥
-  pub why : WhyDeclined e (body_of header bytes) m
+  pub why : WhyDeclined e (body_of bytes header) m
   pub after : x ≡ e
 
 -- ---- tunnels that close

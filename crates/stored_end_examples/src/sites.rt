@@ -30,13 +30,7 @@ fn empty_disk(alloc: Global) -> Result<Box<MemoryDisk>, NoMemory> {
 
 /// What an end of this number is told, without a secret. A LAC is told its LNS.
 fn config(number: u8, lns: u32) -> Config {
-    Config {
-        number,
-        address: address_of(number),
-        lns,
-        secret: None,
-        hide: false,
-    }
+    Config::new(number, address_of(number), lns, None, false)
 }
 
 /// The LAC 1 of a store, whose LNS is the node 2, in a box.

@@ -6,7 +6,7 @@ use Rattle.wire_base.specs.declared.letter.Letter.{Letter}
 use Rattle.send_window.specs.Queue.{Queue}
 use Rattle.end_model.specs.declared.tunnel.Call.{Call}
 use Rattle.end_model.specs.declared.tunnel.Control.{Control}
-use Rattle.end_model.specs.Tunnels.{Tunnel, Turn}
+use Rattle.end_model.specs.Tunnels.{Tunnel, Turn, new_tunnel}
 use Rattle.end_model.specs.Events.{with_calls}
 use Rattle.tunnel_calls.specs.Replays.{replays}
 
@@ -18,7 +18,7 @@ pub record Core : Type 0 where
   pub calls : Kept Call
 
 abbrev pub tunnel_of : Core → Tunnel
-tunnel_of c = record { control = c.control; letters = c.letters.letters; calls = c.calls.entries }
+tunnel_of c = record (new_tunnel c.control) { letters = c.letters.letters; calls = c.calls.entries }
 
 pub record Plan : Type 0 where
   pub control : Control
@@ -50,7 +50,7 @@ AllCallsReplay calls = AllByRecursion CallReplays calls
 
 -- a tunnel after what was planned for it
 abbrev pub made_of : Plan → Tunnel → Tunnel
-made_of p t = record { control = p.control; letters = drop p.acked t.letters ++ p.given; calls = with_calls p.changed t.calls }
+made_of p t = record t { control = p.control; letters = drop p.acked t.letters ++ p.given; calls = with_calls p.changed t.calls }
 
 -- there is room for the calls and the letters of a plan
 pub record HasRoomFor (c : Core) (p : Plan) : Type 0 where

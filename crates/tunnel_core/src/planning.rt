@@ -1,10 +1,10 @@
 //! A tunnel with its calls: an event is planned, and then made.
 
-ghost use Rattle.std.specs.Prelude.{◌≡◌, ◌≤◌, ◌++◌, [], length, false, OnOk, OnErr, IfOk};
+ghost use Rattle.std.specs.Prelude.{◌≡◌, ◌≤◌, ◌++◌, length, false, OnOk, OnErr, IfOk};
 ghost use Rattle.end_model.specs.Sending.{settles};
 ghost use Rattle.end_model.specs.Hearing.{first_said};
 ghost use Rattle.end_model.specs.Openings.{fresh};
-ghost use Rattle.end_model.specs.Tunnels.{turn_of};
+ghost use Rattle.end_model.specs.Tunnels.{new_tunnel, turn_of};
 ghost use Rattle.end_model.specs.Turn.{with_turn};
 ghost use Rattle.end_model.specs.Events.{turns, with_calls, tunnel_after};
 ghost use Rattle.tunnel_timers.specs.Due.{IsNoLater, tunnel_due};
@@ -108,7 +108,7 @@ impl TunnelCore {
     /// A tunnel to a peer, an IPv4 address as a number, that is neither opened nor accepted yet, at a moment. It draws its
     /// id in its first step.
     pub fn idle(alloc: Global, peer: u32, moment: u64) -> TunnelCore
-        ensures { tunnel_of result ≡ record { control = fresh peer moment; letters = []; calls = [] } }
+        ensures { tunnel_of result ≡ new_tunnel (fresh peer moment) }
     {
         TunnelCore {
             alloc,

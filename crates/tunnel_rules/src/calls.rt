@@ -43,21 +43,16 @@ fn gone_on(
     ensures { IfOk result (λ c. c ≡ advanced role event moment (record call.now { remote = remote })) }
 {
     let (next, _) = call_row(role, call.state, event);
-    let mut steps = CallSteps::from_slice(alloc, call.steps.as_slice())?;
-    steps.push(CallStep {
+    let mut after = copy_call(alloc, call)?;
+    after.steps.push(CallStep {
         state: call.state,
         event,
         next,
     })?;
-    Ok(Call {
-        remote,
-        state: next,
-        since: moment,
-        subscriber: call.subscriber,
-        steps,
-        link: call.link,
-        sequence: call.sequence,
-    })
+    after.remote = remote;
+    after.state = next;
+    after.since = moment;
+    Ok(after)
 }
 
 /// The call as its table has it after an event, at a moment, of one whose rows lead to its state. So do its own.
@@ -118,15 +113,14 @@ pub fn asked_for(alloc: Global, role: Role, remote: u16, moment: u64) -> Result<
 pub fn copy_call(alloc: Global, call: &Call) -> Result<Call, NoMemory>
     ensures { IfOk result (λ c. c ≡ call.now) }
 {
-    Ok(Call {
-        remote: call.remote,
-        state: call.state,
-        since: call.since,
-        subscriber: call.subscriber,
-        steps: CallSteps::from_slice(alloc, call.steps.as_slice())?,
-        link: call.link,
-        sequence: call.sequence,
-    })
+    let mut copy = idle_call(alloc, call.subscriber);
+    copy.steps = CallSteps::from_slice(alloc, call.steps.as_slice())?;
+    copy.remote = call.remote;
+    copy.state = call.state;
+    copy.since = call.since;
+    copy.link = call.link;
+    copy.sequence = call.sequence;
+    Ok(copy)
 }
 
 /// The number of the first data message of a call: 0 where its ICCN had Sequencing Required (RFC 2661 section 5.4), else none.

@@ -8,7 +8,7 @@ use Rattle.wire_base.specs.declared.why.Why.{Why}
 use Rattle.wire_base.specs.declared.why.Why.TheVariants as why
 use Rattle.l2tp_header.specs.declared.header.Header.{Header}
 use Rattle.l2tp_header.specs.declared.header.HeaderError.{HeaderError}
-use Rattle.l2tp_header.specs.Reading.{header_of}
+use Rattle.l2tp_header.specs.Reading.{header_of, body_of}
 use Rattle.session_looks.specs.Frames.{Carried, Upward, Dropped, carry_look, frame_of, header_why}
 use Rattle.schedule_text.specs.declared.line.Line.{Line}
 use Rattle.schedule_text.specs.declared.line.Line.TheVariants.{Remark, Lac, Lns, OpenUp, Close, Ring, Frame, FromSub, Down, Hang, DropCall, Deliver, Load, Hand, Tick, Crash, Stop, Start}
@@ -34,9 +34,8 @@ use Rattle.world_model.specs.declared.refusal.Refusal.{Refusal}
 use Rattle.world_model.specs.declared.refusal.Refusal.TheVariants.{Unfit, HalfSpace, StoreFull}
 use Rattle.end_names.specs.Names.{address_of, node_of}
 use Rattle.end_model.specs.Calls.{is_lac}
-use Rattle.end_model.specs.End.{End, Stepped, reached, step, new_end, is_not_closed, look_in}
+use Rattle.end_model.specs.End.{End, Stepped, reached, step, new_config, new_end, is_not_closed, look_in}
 use Rattle.end_model.specs.Contents.{contents_of}
-use Rattle.end_model.specs.Reading.{body_of}
 use Rattle.end_model.specs.Starting.{bare_end, starts, access_over}
 use Rattle.world_model.specs.Texts.{Entry, Sends, HandsUp, Holds, Ends, Frames, Drops, Causes, Stopped}
 use Rattle.end_model.specs.Access.{Access, access_with, Coming, Ignores, Answers, Runs, Enters, coming, pads_of, entered, farewell}
@@ -171,8 +170,12 @@ block_of n line = big_bytes 8 n ++ big_bytes 8 line
 
 -- ---- what a step gives to the outside
 
+-- a packet from a node to a node, these bytes, with what the world keeps beside them
+abbrev pub packet_from : ℕ → ℕ → List ℕ → Origin → Packet
+packet_from from to bytes origin = record { from = from; to = to; bytes = bytes; origin = origin }
+
 unfoldable pub sent : World → ℕ → ℕ → List ℕ → Origin → World
-sent w from to bytes origin = record w { packets = w.packets ++ record { from = from; to = to; bytes = bytes; origin = origin } ∷ [] }
+sent w from to bytes origin = record w { packets = w.packets ++ packet_from from to bytes origin ∷ [] }
 
 -- an output of a node's step: what it does to the world, and the entry of the report that it makes in a line
 unfoldable pub shown : ℕ → World → Out → World
@@ -325,7 +328,7 @@ with_tunnel i (Ok node) = if is_not_closed (at node.end.tunnels i) then Ok node 
 
 -- the configuration of a node
 abbrev pub config_of : ℕ → ℕ → Option (List ℕ) → Bool → Config
-config_of n lns secret hide = record { number = n; address = address_of n; lns = lns; secret = secret; hide = hide }
+config_of n lns secret hide = new_config n (address_of n) lns secret hide
 
 -- the key of a LAC's cookies is the block of the line that makes it
 abbrev pub new_node : ℕ → ℕ → Role → ℕ → Option (List ℕ) → Bool → Node
@@ -459,7 +462,7 @@ unfoldable pub loads_by : World → ℕ → ℕ → End → ℕ → List ℕ →
 loads_by w line n e peer bytes (Err x) = Ok (dropped_line w line n (header_why x))
 loads_by w line n e peer bytes (Ok h) =
     if h.control then Err (Unfit why.Packet)
-    else Ok (held_or_dropped w line n h.session (carry_look e.role (look_in (at e.calls h.session)) peer h (frame_of (body_of h bytes))))
+    else Ok (held_or_dropped w line n h.session (carry_look e.role (look_in (at e.calls h.session)) peer h (frame_of (body_of bytes h))))
 
 -- a packet for the node, which is no control message
 unfoldable pub loads_it : World → ℕ → ℕ → Node → Option Packet → Result Lined Refusal

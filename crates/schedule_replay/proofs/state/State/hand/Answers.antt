@@ -1,4 +1,4 @@
-use Rattle.std.proofs.Common.{◌≡◌, false, refl, sym, ◌∙◌}
+use Rattle.std.proofs.Common.{◌≡◌, false, refl}
 use Rattle.std.specs.Prelude.{is_some}
 use Rattle.id_table.specs.Ids.{at}
 use Rattle.world_model.specs.World.{declared, held_at}
