@@ -8,7 +8,7 @@ use lns_core::Lns;
 use session_looks::Look;
 use std::alloc::Global;
 use step_ledger::{StepFault, Unkept};
-use tunnel_core::Outputs;
+use tunnel_core::{Outputs, TunnelCore};
 use wire_base::{Bytes, NoMemory, Why};
 
 /// What an end of this number is told. A secret of no bytes is none.
@@ -191,6 +191,14 @@ impl Bench {
         match &self.end {
             Side::Lac(lac) => lac.tunnel_rows(alloc),
             Side::Lns(lns) => lns.tunnel_rows(alloc),
+        }
+    }
+
+    /// The tunnel with this local id.
+    pub fn tunnel(&self, id: u16) -> Option<&TunnelCore> {
+        match &self.end {
+            Side::Lac(lac) => lac.end().tunnel(u32::from(id)),
+            Side::Lns(lns) => lns.end().tunnel(u32::from(id)),
         }
     }
 

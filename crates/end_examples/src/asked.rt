@@ -1,10 +1,13 @@
-//! What an end tells when it is asked: whether an event fits it, what is seen of a session, and its tables.
+//! What an end tells when it is asked: whether an event fits it, what is seen of a session, its tables, and of a tunnel which rows its
+//! calls went through, and which of them are established.
 
+use crate::tables::push_cell;
 use bench_examples::{Bench, Fault, id_of, push_number};
 use end_core::{CallRow, Mode, TunnelRow};
 use end_model::node_of;
 use session_looks::Look;
 use std::alloc::Global;
+use tunnel_core::{CallRows, TunnelCore};
 use wire_base::{Bytes, NoMemory};
 
 /// Appends words that are numbers, each behind a space.
@@ -91,6 +94,52 @@ pub(crate) fn tables_row(alloc: Global, bench: &Bench) -> Result<Bytes, Fault> {
         for call in tunnel.calls.as_slice() {
             push_call(alloc, &mut text, call)?;
         }
+    }
+    Ok(text)
+}
+
+/// The tunnel of an id in digits.
+fn tunnel_of<'a>(bench: &'a Bench, tunnel: &str) -> Result<&'a TunnelCore, Fault> {
+    bench.tunnel(id_of(tunnel)?).ok_or(Fault::NotARow)
+}
+
+/// Appends the lines of a call: its id with the state in which it began, and behind it the rows that it went through.
+fn push_rows(alloc: Global, text: &mut Bytes, call: &CallRows) -> Result<(), Fault> {
+    text.push_slice(b"call")?;
+    push_numbers(alloc, text, &[call.session])?;
+    text.push_slice(b" ")?;
+    text.push_slice(call.began.word())?;
+    text.push_slice(b"\n")?;
+    for step in call.steps.as_slice() {
+        push_cell(
+            alloc,
+            text,
+            &step.event,
+            step.state.word(),
+            step.next.word(),
+        )?;
+    }
+    Ok(())
+}
+
+/// The calls of a tunnel, each with the rows that it went through.
+pub(crate) fn rows_row(alloc: Global, bench: &Bench, tunnel: &str) -> Result<Bytes, Fault> {
+    let mut text = Bytes::new(alloc);
+    let rows = tunnel_of(bench, tunnel)?.rows()?;
+    for call in rows.as_slice() {
+        push_rows(alloc, &mut text, call)?;
+    }
+    Ok(text)
+}
+
+/// The calls of a tunnel that are established, each by its id at this end and at the other.
+pub(crate) fn pairs_row(alloc: Global, bench: &Bench, tunnel: &str) -> Result<Bytes, Fault> {
+    let mut text = Bytes::new(alloc);
+    let pairs = tunnel_of(bench, tunnel)?.established()?;
+    for pair in pairs.as_slice() {
+        text.push_slice(b"pair")?;
+        push_numbers(alloc, &mut text, &[pair.sender, pair.receiver])?;
+        text.push_slice(b"\n")?;
     }
     Ok(text)
 }

@@ -8,7 +8,7 @@
 mod asked;
 mod tables;
 
-use asked::{fits_row, look_row, tables_row};
+use asked::{fits_row, look_row, pairs_row, rows_row, tables_row};
 use bench_examples::{Bench, Fault};
 use std::alloc::Global;
 use std::io;
@@ -21,6 +21,8 @@ fn answer(alloc: Global, bench: &mut Bench, row: &str) -> Result<Bytes, Fault> {
     match row.split_once(' ') {
         Some(("fits", words)) => fits_row(alloc, bench, words),
         Some(("look", session)) => look_row(alloc, bench, session),
+        Some(("rows", tunnel)) => rows_row(alloc, bench, tunnel),
+        Some(("pairs", tunnel)) => pairs_row(alloc, bench, tunnel),
         Some(("tunnel", state)) => tunnel_row(alloc, state),
         Some(("lac", state)) => call_row(alloc, true, state),
         Some(("lns", state)) => call_row(alloc, false, state),

@@ -72,17 +72,17 @@ fn call_word(action: CallAction) -> &'static [u8] {
     }
 }
 
-/// Appends the line of an event: its name, the action and the next state.
-fn push_cell<T: Debug>(
+/// Appends the line of an event: its name, the action that it makes or the state in which it came, and the next state.
+pub(crate) fn push_cell<T: Debug>(
     alloc: Global,
     text: &mut Bytes,
     event: &T,
-    action: &[u8],
+    word: &[u8],
     next: &[u8],
 ) -> Result<(), Fault> {
     let name = format!(in alloc; "{event:?} ")?;
     text.push_slice(name.as_bytes())?;
-    text.push_slice(action)?;
+    text.push_slice(word)?;
     text.push_slice(b" ")?;
     text.push_slice(next)?;
     text.push_slice(b"\n")?;
