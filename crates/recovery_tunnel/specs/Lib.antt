@@ -3,4 +3,5 @@ pub mod Secrets
 pub mod Connections
 pub mod Attempts
 pub mod Answers
+pub mod Either
 pub mod History

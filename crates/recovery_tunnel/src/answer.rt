@@ -43,6 +43,12 @@ impl Model for Answer {
 }
 
 impl Answer {
+    pub(crate) fn connection(&self) -> &ControlConnection
+        ensures { result.now ≡ self.now.connection }
+    {
+        &self.connection
+    }
+
     /// An answer to the attempt with the tunnel id `remote`, whose SCCRQ, its first letter, is taken, and whose receive window has
     /// `window` letters: `opening` is what this end says of itself, what it asks the other one to answer by the secret, and its
     /// response. The tunnel id `local` and the number `draw` are drawn for this answer. Its first letter, the SCCRP, stands in its

@@ -68,6 +68,12 @@ fn suggested_in(reply: &Opening) -> Suggested
 }
 
 impl Attempt {
+    pub(crate) fn connection(&self) -> &ControlConnection
+        ensures { result.now ≡ self.now }
+    {
+        &self.connection
+    }
+
     /// An attempt at the recovery of a tunnel that has these two ids: `opening` is what this end says of itself, and what it asks
     /// the other one to answer by the secret. The tunnel id `local` and the number `draw` are drawn for this attempt. Its first
     /// letter, the SCCRQ, stands in its channel.

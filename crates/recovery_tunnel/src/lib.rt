@@ -8,12 +8,14 @@ ghost use Rattle.recovery_tunnel.specs.History.{AttemptTellsOnce, AnswerTellsOnc
 mod answer;
 mod attempt;
 mod connection;
+mod either;
 mod judging;
 mod progress;
 mod secrets;
 
 pub use answer::Answer;
 pub use attempt::Attempt;
+pub use either::Recovering;
 pub use judging::{Judged, judge};
 pub use progress::Progress;
 
