@@ -1,5 +1,9 @@
 -- What an end's book becomes by each kind of change of its tunnels and calls.
 use Rattle.std.proofs.Common.{◌≡◌, inl, inr, ⊎_elim, ℕ, ◌<◌, ◌≤◌, ◌==◌, Bool, true, false, cond, List, [], ◌∷◌, length, Option, Some, None, is_some, refl, sym, ◌∙◌, ap, subst, arith}
+use Rattle.std.specs.Prelude.{max, nat_lt}
+use Rattle.std.specs.List.{AllByRecursion}
+use Rattle.std.proofs.lemmas.Bool.{true≢false}
+use Rattle.std.proofs.lemmas.Bool.Decides.{nat_tests}
 use Rattle.std.proofs.lemmas.Option.{none-some}
 use Rattle.id_table.specs.Ids.{at, put, without, at-none}
 use Rattle.id_table.specs.Order.{at_new, at_other, found_put, same_or_not, at_without_same, at_without_other, found_without}
@@ -14,14 +18,16 @@ use Rattle.end_model.specs.declared.tunnel.Call.{Call}
 use Rattle.end_model.specs.declared.tunnel.Control.{Control}
 use Rattle.end_model.specs.Calls.{is_up}
 use Rattle.end_model.specs.Channels.{peer_window}
-use Rattle.end_model.specs.Contents.{tunnel_down, call_down}
+use Rattle.end_names.specs.declared.role.Role.{Role}
+use Rattle.end_names.specs.declared.role.Role.TheVariants.{Lac, Lns}
+use Rattle.end_model.specs.Contents.{tunnel_down, call_down, mark_by}
 use Rattle.end_model.specs.End.{End}
 use Rattle.end_model.specs.Moments.{is_open}
-use Rattle.end_model.specs.Tunnels.{Tunnel, new_tunnel}
+use Rattle.end_model.specs.Tunnels.{Tunnel, new_tunnel, Recovering, mode_of, is_current}
 use Rattle.step_laws.specs.Moves.{with_tunnel}
-use Rattle.book_laws.specs.Books.{Mirrors, AreDrawn, booked_control, booked_call, tunnel_record, call_record, record_in, CallFits, TunnelFits, TablesFit, AreInPlace, book_after}
+use Rattle.book_laws.specs.Books.{Mirrors, AreDrawn, booked_control, booked_call, tunnel_record, call_record, record_in, HasNone, CallFits, TunnelFits, TablesFit, AreInPlace, book_after, RecordsNone, LeavesNone}
 use Rattle.book_laws.proofs.Lists.{put_most, put_there}
-use Rattle.book_laws.proofs.Views.{same_book, TunnelComes, tunnel_came, tunnel_fits, TunnelGoes, tunnel_went_fits, tunnel_went, CallComes, call_came, call_fits, CallGoes, call_went_fits, call_went}
+use Rattle.book_laws.proofs.Views.{same_book, TunnelComes, tunnel_came, tunnel_fits, TunnelGoes, tunnel_went_fits, tunnel_went, CallComes, call_came, call_fits, CallGoes, call_went_fits, call_went, MarkRises, tunnel_marked, mark_fits}
 use Rattle.book_laws.proofs.Fitting.{Grows, tunnel_later, control_fits, call_put_fits, call_without_fits, bare_fits, put_fits, without_fits, only_in, only_new, same_few, fresh_tunnel, fresh_call}
 
 -- a change leaves records, each in its place, and the book after them is that of the end after it
@@ -30,6 +36,7 @@ pub record GoesOn (e x : End) (k : Kept) (rs : List Record) : Type 0 where
   pub fit : TablesFit x
   pub in_place : AreInPlace k rs
   pub book : Mirrors x (book_after k rs)
+  pub calls : AllByRecursion (LeavesNone x.role) rs
 
 -- what is recorded of a control part is that of another
 pub record SameControl (c d : Control) : Type 0 where
@@ -38,9 +45,24 @@ pub record SameControl (c d : Control) : Type 0 where
   pub peer : d.peer ≡ c.peer
   pub window : peer_window d ≡ peer_window c
   pub flags : d.flags ≡ c.flags
+  pub mark : d.mark ≡ c.mark
+
+-- or all of it but the mark
+pub record SameButMark (c d : Control) : Type 0 where
+  pub state : d.state ≡ c.state
+  pub remote : d.remote ≡ c.remote
+  pub peer : d.peer ≡ c.peer
+  pub window : peer_window d ≡ peer_window c
+  pub flags : d.flags ≡ c.flags
+
+lower_than : (a b : ℕ) → nat_lt a b ≡ true → a < b
+lower_than a b is = grind (arith, nat_tests)
+
+not_lower : (a b : ℕ) → nat_lt a b ≡ false → b ≤ a
+not_lower a b is = grind (arith, nat_tests)
 
 pub same_control : (c : Control) → SameControl c c
-same_control c = record { state = refl; remote = refl; peer = refl; window = refl; flags = refl }
+same_control c = record { state = refl; remote = refl; peer = refl; window = refl; flags = refl; mark = refl }
 
 pub grows_so : (e x : End) → x.role ≡ e.role → x.tunnel_ids ≡ e.tunnel_ids → x.session_ids ≡ e.session_ids → Grows e x
 grows_so e x role tunnels sessions = record {
@@ -50,7 +72,7 @@ grows_so e x role tunnels sessions = record {
 }
 
 same_record : (i : ℕ) (t u : Tunnel) → SameControl t.control u.control → tunnel_record i (Some u) ≡ tunnel_record i (Some t)
-same_record i t u s = rw (s.state, s.remote, s.peer, s.window, s.flags) refl
+same_record i t u s = rw (s.state, s.remote, s.peer, s.window, s.flags, s.mark) refl
 
 pub opened_record : (i : ℕ) (u : Tunnel) (r : BookTunnel) → state_number u.control.state ≡ 3 → booked_control i u.control ≡ r → tunnel_record i (Some u) ≡ Some r
 opened_record i u r three is = ap (λ n. cond (n == 3) (Some (booked_control i u.control)) None) three ∙ ap (λ (b : BookTunnel). Some b) is
@@ -60,6 +82,11 @@ closed_record i t shut = ap (λ b. cond b (Some (booked_control i t.control)) No
 
 pub up_record : (i s : ℕ) (c : Call) → is_up c.state ≡ true → call_record i s (Some c) ≡ Some (booked_call i s c)
 up_record i s c up = ap (λ b. cond b (Some (booked_call i s c)) None) up
+
+-- what is recorded of a call that has none
+pub recorded_none : (r : Role) (i s : ℕ) (c : Call) → HasNone r c → RecordsNone r (booked_call i s c)
+recorded_none Lac i s c none = ap is_some none
+recorded_none Lns i s c none = none
 
 pub down_record : (i s : ℕ) (c : Call) → is_up c.state ≡ false → call_record i s (Some c) ≡ None
 down_record i s c down = ap (λ b. cond b (Some (booked_call i s c)) None) down
@@ -109,6 +136,7 @@ module _ (e x : End) (k : Kept) (fit : TablesFit e) (drawn : AreDrawn e k) (book
     fit = subst TablesFit (sym same) fit;
     in_place = tt;
     book = subst (λ (y : End). Mirrors y k) (sym same) book;
+    calls = tt;
   }
 
   abbrev with_control : Tunnel → Control → List Letter → Tunnel
@@ -117,27 +145,92 @@ module _ (e x : End) (k : Kept) (fit : TablesFit e) (drawn : AreDrawn e k) (book
   within_ceiling : (i : ℕ) (t : Tunnel) → at e.tunnels i ≡ Some t → i ≤ k.tunnel_ceiling
   within_ceiling i t there = let lt = (fit.tunnels i t there).drawn in let le = drawn.tunnels in omega (arith, lt, le)
 
-  -- what isn't recorded of a control part changes
-  pub control_goes : (i : ℕ) (t : Tunnel) (c : Control) (ls : List Letter) → at e.tunnels i ≡ Some t → x ≡ with_tunnel e i (record t { control = c; letters = ls })
-      → SameControl t.control c → GoesOn e x k []
-  control_goes i t c ls there after same =
+  -- what isn't recorded of a control part changes, and its recovery tunnel, if only an open tunnel is frozen or restored
+  pub line_goes : (i : ℕ) (t : Tunnel) (c : Control) (ls : List Letter) (q : Option Recovering) → at e.tunnels i ≡ Some t
+      → x ≡ with_tunnel e i (record t { control = c; letters = ls; recovery = q }) → SameControl t.control c
+      → (is_current (mode_of q) ≡ false → state_number t.control.state ≡ 3) → GoesOn e x k []
+  line_goes i t c ls q there after same recovered =
       let is = ap (λ (y : End). y.tunnels) after in
       let grows = grows_so e x (ap (λ (y : End). y.role) after) (ap (λ (y : End). y.tunnel_ids) after) (ap (λ (y : End). y.session_ids) after) in
-      let u = with_control t c ls in
+      let u : Tunnel = record t { control = c; letters = ls; recovery = q } in
       let old = fit.tunnels i t there in
       record {
         grows = grows;
         fit = put_fits e x fit grows i u is (same_few e x fit grows i t u there is)
-            (tunnel_later e x grows i u (control_fits e i t c ls old
+            (tunnel_later e x grows i u (control_fits e i t c ls q old
             (λ two. subst (λ n. 0 < n) (sym same.remote) (old.remote (sym (ap state_number same.state) ∙ two)))
             (subst (λ n. 0 < n) (sym same.window) old.window)
-            (λ three. ap state_number same.state ∙ three)))
+            (λ three. ap state_number same.state ∙ three)
+            (λ low. same.mark ∙ old.unmarked (subst (λ n. n < 3) (ap state_number same.state) low))
+            (λ apart. ap state_number same.state ∙ recovered apart)))
             (only_in e x fit grows i t u there (λ s d f. (d, f)));
         in_place = tt;
         book = same_book e x k book
             (all_tunnels e x i u is (same_record i t u same ∙ ap (tunnel_record i) (sym there)))
-            (all_calls e x i u is (λ q. ap (record_in i q) (sym there)));
+            (all_calls e x i u is (λ s. ap (record_in i s) (sym there)));
+        calls = tt;
       }
+
+  -- or only the control part does
+  pub control_goes : (i : ℕ) (t : Tunnel) (c : Control) (ls : List Letter) → at e.tunnels i ≡ Some t → x ≡ with_tunnel e i (record t { control = c; letters = ls })
+      → SameControl t.control c → GoesOn e x k []
+  control_goes i t c ls there after same = line_goes i t c ls t.recovery there after same (fit.tunnels i t there).recovered
+
+  -- the mark of an open tunnel rises, or stays
+  module _ (i : ℕ) (t u : Tunnel) (there : at e.tunnels i ≡ Some t) (grows : Grows e x) (is : x.tunnels ≡ put e.tunnels i u) (fitted : TunnelFits x i u)
+      (some : (s : ℕ) (c : Call) → at u.calls s ≡ Some c → (d : Call) × (at t.calls s ≡ Some d))
+      (alike : (s : ℕ) → call_record i s (at u.calls s) ≡ call_record i s (at t.calls s)) (rest : SameButMark t.control u.control)
+      (open_is : state_number t.control.state ≡ 3) where
+    marks_fit : TablesFit x
+    marks_fit = put_fits e x fit grows i u is (same_few e x fit grows i t u there is) fitted (only_in e x fit grows i t u there some)
+
+    marks_calls : (j q : ℕ) → record_in j q (at x.tunnels j) ≡ record_in j q (at e.tunnels j)
+    marks_calls = all_calls e x i u is (λ q. alike q ∙ ap (record_in i q) (sym there))
+
+    abbrev own : BookTunnel
+    own = booked_control i t.control
+
+    marks_before : tunnel_record i (at e.tunnels i) ≡ Some own
+    marks_before = ap (tunnel_record i) there ∙ opened_record i t own open_is refl
+
+    pub tunnel_marks : (marked : Bool) (mark : ℕ) → marked ≡ nat_lt t.control.mark mark → u.control.mark ≡ max t.control.mark mark
+        → GoesOn e x k (mark_by marked i mark)
+    tunnel_marks true mark rises new =
+        let higher : t.control.mark < mark = lower_than t.control.mark mark (sym rises) in
+        let top : u.control.mark ≡ mark = new ∙ omega (arith, higher) in
+        let comes : MarkRises e x k book i mark own = record {
+          before = marks_before;
+          after = ap (tunnel_record i) (at_it e x i u is)
+              ∙ opened_record i u (record own { mark = mark }) (ap state_number rest.state ∙ open_is) (rw (rest.remote, rest.peer, rest.window, rest.flags, top) refl);
+          others = tunnels_else e x i u is;
+          calls = marks_calls;
+          higher = higher;
+        } in
+        record {
+          grows = grows;
+          fit = marks_fit;
+          in_place = (mark_fits e x k book i mark own comes, tt);
+          book = tunnel_marked e x k book i mark own comes;
+          calls = (tt, tt);
+        }
+    tunnel_marks false mark rises new =
+        let low : mark ≤ t.control.mark = not_lower t.control.mark mark (sym rises) in
+        let stays : u.control.mark ≡ t.control.mark = new ∙ omega (arith, low) in
+        let same : SameControl t.control u.control = record {
+          state = rest.state;
+          remote = rest.remote;
+          peer = rest.peer;
+          window = rest.window;
+          flags = rest.flags;
+          mark = stays;
+        } in
+        record {
+          grows = grows;
+          fit = marks_fit;
+          in_place = tt;
+          book = same_book e x k book (all_tunnels e x i u is (same_record i t u same ∙ ap (tunnel_record i) (sym there))) marks_calls;
+          calls = tt;
+        }
 
   -- a tunnel comes up
   pub tunnel_opens : (i : ℕ) (t : Tunnel) (c : Control) (ls : List Letter) (r : BookTunnel) → at e.tunnels i ≡ Some t
@@ -166,31 +259,35 @@ module _ (e x : End) (k : Kept) (fit : TablesFit e) (drawn : AreDrawn e k) (book
       record {
         grows = grows;
         fit = put_fits e x fit grows i u is few
-            (tunnel_later e x grows i u (control_fits e i t c ls old
+            (tunnel_later e x grows i u (control_fits e i t c ls t.recovery old
             (λ two. absurd (omega (arith, two, three)))
             (subst (λ n. 0 < n) (sym (ap (λ (b : BookTunnel). b.window) recorded)) window)
-            (λ open_is. three)))
+            (λ open_is. three)
+            (λ low. absurd (omega (arith, low, three)))
+            (λ apart. three)))
             (only_in e x fit grows i t u there (λ s d f. (d, f)));
         in_place = (tunnel_fits e x k book r comes, tt);
         book = tunnel_came e x k book r comes;
+        calls = (tt, tt);
       }
 
   -- one is made
   pub tunnel_born : (i : ℕ) (c : Control) (ls : List Letter) → Grows e x → i ≡ e.tunnel_ids.next → i < x.tunnel_ids.next
       → x.tunnels ≡ put e.tunnels i (record (new_tunnel c) { letters = ls }) → length x.tunnels ≤ 1024 → is_open c.state ≡ false
-      → (state_number c.state ≡ 2 → 0 < c.remote) → 0 < peer_window c → GoesOn e x k []
-  tunnel_born i c ls grows fresh later is few shut remote window =
+      → (state_number c.state ≡ 2 → 0 < c.remote) → 0 < peer_window c → c.mark ≡ 0 → GoesOn e x k []
+  tunnel_born i c ls grows fresh later is few shut remote window unmarked =
       let u : Tunnel = record (new_tunnel c) { letters = ls } in
       let none = fresh_tunnel e fit i fresh in
       let some : 0 < i = (let first = fit.first_tunnel in omega (arith, first, fresh)) in
       record {
         grows = grows;
-        fit = put_fits e x fit grows i u is few (bare_fits x i c ls some later remote window)
+        fit = put_fits e x fit grows i u is few (bare_fits x i c ls None some later remote window (λ low. unmarked) (λ apart. absurd (true≢false apart)))
             (λ s d f. absurd (none-some d (sym (at-none s) ∙ f)));
         in_place = tt;
         book = same_book e x k book
             (all_tunnels e x i u is (closed_record i u shut ∙ ap (tunnel_record i) (sym none)))
             (all_calls e x i u is (λ q. ap (call_record i q) (at-none q) ∙ ap (record_in i q) (sym none)));
+        calls = tt;
       }
 
   -- ---- its calls
@@ -212,10 +309,12 @@ module _ (e x : End) (k : Kept) (fit : TablesFit e) (drawn : AreDrawn e k) (book
     u_fits : CallFits x (with_control t c ls) s new → length u.calls ≤ 4096 → TunnelFits x i u
     u_fits call few =
         let old = fit.tunnels i t there in
-        call_put_fits x i (with_control t c ls) s new (tunnel_later e x grows i (with_control t c ls) (control_fits e i t c ls old
+        call_put_fits x i (with_control t c ls) s new (tunnel_later e x grows i (with_control t c ls) (control_fits e i t c ls t.recovery old
         (λ two. subst (λ n. 0 < n) (sym same.remote) (old.remote (sym (ap state_number same.state) ∙ two)))
         (subst (λ n. 0 < n) (sym same.window) old.window)
-        (λ three. ap state_number same.state ∙ three))) call few
+        (λ three. ap state_number same.state ∙ three)
+        (λ low. same.mark ∙ old.unmarked (subst (λ n. n < 3) (ap state_number same.state) low))
+        (λ apart. ap state_number same.state ∙ old.recovered apart))) call few
 
     -- one that is there changes
     module _ (old : Call) (live : at t.calls s ≡ Some old) (call : CallFits x (with_control t c ls) s new) where
@@ -242,6 +341,7 @@ module _ (e x : End) (k : Kept) (fit : TablesFit e) (drawn : AreDrawn e k) (book
             (λ (own : q ≡ s). subst (λ n. call_record i n (at u.calls n) ≡ record_in i n (at e.tunnels i)) (sym own) (call_here ∙ alike ∙ sym was_here))
             (λ o. not_here q o)
             (same_or_not q s)));
+        calls = tt;
       }
 
       -- it comes up
@@ -268,6 +368,7 @@ module _ (e x : End) (k : Kept) (fit : TablesFit e) (drawn : AreDrawn e k) (book
             fit = changed_fit;
             in_place = (call_fits e x k book (booked_call i s new) comes, tt);
             book = call_came e x k book (booked_call i s new) comes;
+            calls = (recorded_none x.role i s new call.none, tt);
           }
         where
           none_elsewhere : (j : ℕ) → (j ≡ i → ⊥) → record_in j s (at e.tunnels j) ≡ None
@@ -299,6 +400,7 @@ module _ (e x : End) (k : Kept) (fit : TablesFit e) (drawn : AreDrawn e k) (book
               (call_here ∙ down_record i s new down ∙ sym (ap (record_in i s) there ∙ ap (call_record i s) none)))
               (λ o. not_here q o)
               (same_or_not q s)));
+          calls = tt;
         }
 
   -- ---- one ends
@@ -312,10 +414,12 @@ module _ (e x : End) (k : Kept) (fit : TablesFit e) (drawn : AreDrawn e k) (book
     left_fit =
         let was = fit.tunnels i t there in
         put_fits e x fit grows i rest is (same_few e x fit grows i t rest there is)
-        (call_without_fits x i (with_control t c ls) s (tunnel_later e x grows i (with_control t c ls) (control_fits e i t c ls was
+        (call_without_fits x i (with_control t c ls) s (tunnel_later e x grows i (with_control t c ls) (control_fits e i t c ls t.recovery was
         (λ two. subst (λ n. 0 < n) (sym same.remote) (was.remote (sym (ap state_number same.state) ∙ two)))
         (subst (λ n. 0 < n) (sym same.window) was.window)
-        (λ three. ap state_number same.state ∙ three))))
+        (λ three. ap state_number same.state ∙ three)
+        (λ low. same.mark ∙ was.unmarked (subst (λ n. n < 3) (ap state_number same.state) low))
+        (λ apart. ap state_number same.state ∙ was.recovered apart))))
         (only_in e x fit grows i t rest there (λ q d f. (d, (found_without t.calls s q d was.order f).1)))
 
     rest_here : tunnel_record i (Some rest) ≡ tunnel_record i (at e.tunnels i)
@@ -350,7 +454,7 @@ module _ (e x : End) (k : Kept) (fit : TablesFit e) (drawn : AreDrawn e k) (book
           others = other_calls e x i rest is s rest_calls;
           tunnels = all_tunnels e x i rest is rest_here;
         } in
-        record { grows = grows; fit = left_fit; in_place = (call_went_fits e x k book i s goes, tt); book = call_went e x k book i s goes }
+        record { grows = grows; fit = left_fit; in_place = (call_went_fits e x k book i s goes, tt); book = call_went e x k book i s goes; calls = (tt, tt) }
     call_ends false down = record {
       grows = grows;
       fit = left_fit;
@@ -360,6 +464,7 @@ module _ (e x : End) (k : Kept) (fit : TablesFit e) (drawn : AreDrawn e k) (book
           (gone_here ∙ sym (had ∙ down_record i s old (sym down))))
           (λ o. rest_calls q o)
           (same_or_not q s)));
+      calls = tt;
     }
 
   -- ---- a tunnel goes with its calls
@@ -388,7 +493,7 @@ module _ (e x : End) (k : Kept) (fit : TablesFit e) (drawn : AreDrawn e k) (book
           no_calls = no_calls;
           calls = λ j s o. ap (record_in j s) (elsewhere j o);
         } in
-        record { grows = grows; fit = fit_after; in_place = (tunnel_went_fits e x k book i goes, tt); book = tunnel_went e x k book i goes }
+        record { grows = grows; fit = fit_after; in_place = (tunnel_went_fits e x k book i goes, tt); book = tunnel_went e x k book i goes; calls = (tt, tt) }
     tunnel_ends false shut = record {
       grows = grows;
       fit = fit_after;
@@ -403,20 +508,22 @@ module _ (e x : End) (k : Kept) (fit : TablesFit e) (drawn : AreDrawn e k) (book
           (λ (own : j ≡ i). subst (λ n. record_in n s (at x.tunnels n) ≡ record_in n s (at e.tunnels n)) (sym own) (no_calls s ∙ sym (none_up (sym shut) s)))
           (λ o. ap (record_in j s) (elsewhere j o))
           (same_or_not j i));
+      calls = tt;
     }
 
   -- it is closed
   pub tunnel_shuts : (i : ℕ) (t : Tunnel) (c : Control) (ls : List Letter) (booked : Bool) → at e.tunnels i ≡ Some t → Grows e x
       → x.tunnels ≡ put e.tunnels i (record t { control = c; letters = ls; calls = [] }) → state_number c.state ≡ 4 → 0 < peer_window c
-      → booked ≡ is_open t.control.state → GoesOn e x k (tunnel_down booked i)
-  tunnel_shuts i t c ls booked there grows is four window established =
+      → is_current (mode_of t.recovery) ≡ true → booked ≡ is_open t.control.state → GoesOn e x k (tunnel_down booked i)
+  tunnel_shuts i t c ls booked there grows is four window current established =
       let u : Tunnel = record t { control = c; letters = ls; calls = [] } in
       let old = fit.tunnels i t there in
       let shut : is_open c.state ≡ false = ap (λ n. n == 3) four in
       let later : i < x.tunnel_ids.next = (let lt = old.drawn in let le = grows.tunnels in omega (arith, lt, le)) in
       tunnel_ends i t there grows
       (put_fits e x fit grows i u is (same_few e x fit grows i t u there is)
-      (bare_fits x i c ls old.some later (λ two. absurd (omega (arith, two, four))) window)
+      (bare_fits x i c ls t.recovery old.some later (λ two. absurd (omega (arith, two, four))) window
+      (λ low. absurd (omega (arith, low, four))) (λ apart. absurd (true≢false (sym current ∙ apart))))
       (λ s d f. absurd (none-some d (sym (at-none s) ∙ f))))
       (ap (tunnel_record i) (at_it e x i u is) ∙ closed_record i u shut)
       (λ s. ap (record_in i s) (at_it e x i u is) ∙ ap (call_record i s) (at-none s))

@@ -1,5 +1,5 @@
 -- What an end keeps so that it may have a book, where a tunnel of it changes.
-use Rattle.std.proofs.Common.{◌≡◌, ◌⊎◌, ⊎_elim, ℕ, ◌<◌, ◌≤◌, List, [], length, Option, Some, None, refl, sym, ◌∙◌, ap, subst, arith}
+use Rattle.std.proofs.Common.{◌≡◌, ◌⊎◌, ⊎_elim, ℕ, ◌<◌, ◌≤◌, false, List, [], length, Option, Some, None, refl, sym, ◌∙◌, ap, subst, arith}
 use Rattle.std.proofs.lemmas.Option.{none-some}
 use Rattle.id_table.specs.Ids.{at, put, without, at-none}
 use Rattle.id_table.specs.Order.{Ascends, ascends-put, ascends-empty, found_put, ascends-without, found_without}
@@ -9,7 +9,7 @@ use Rattle.end_model.specs.declared.tunnel.Call.{Call}
 use Rattle.end_model.specs.declared.tunnel.Control.{Control}
 use Rattle.end_model.specs.Channels.{peer_window}
 use Rattle.end_model.specs.End.{End}
-use Rattle.end_model.specs.Tunnels.{Tunnel, new_tunnel}
+use Rattle.end_model.specs.Tunnels.{Tunnel, new_tunnel, Recovering, mode_of, is_current}
 use Rattle.book_laws.specs.Books.{HasNone, CallFits, TunnelFits, TablesFit}
 use Rattle.book_laws.proofs.Lists.{put_most, put_there, without_most}
 
@@ -36,19 +36,25 @@ module _ (e x : End) (grows : Grows e x) where
     few = h.few;
     remote = h.remote;
     window = h.window;
+    unmarked = h.unmarked;
+    recovered = h.recovered;
     calls = λ s c f. call_later t s c (h.calls s c f);
   }
 
--- a tunnel's control part changes
-pub control_fits : (e : End) (i : ℕ) (t : Tunnel) (c : Control) (ls : List Letter) → TunnelFits e i t → (state_number c.state ≡ 2 → 0 < c.remote)
-    → 0 < peer_window c → (state_number t.control.state ≡ 3 → state_number c.state ≡ 3) → TunnelFits e i (record t { control = c; letters = ls })
-control_fits e i t c ls h remote window opens = record {
+-- a tunnel's control part changes, and its recovery tunnel
+pub control_fits : (e : End) (i : ℕ) (t : Tunnel) (c : Control) (ls : List Letter) (q : Option Recovering) → TunnelFits e i t
+    → (state_number c.state ≡ 2 → 0 < c.remote) → 0 < peer_window c → (state_number t.control.state ≡ 3 → state_number c.state ≡ 3)
+    → (state_number c.state < 3 → c.mark ≡ 0) → (is_current (mode_of q) ≡ false → state_number c.state ≡ 3)
+    → TunnelFits e i (record t { control = c; letters = ls; recovery = q })
+control_fits e i t c ls q h remote window opens unmarked recovered = record {
   some = h.some;
   drawn = h.drawn;
   order = h.order;
   few = h.few;
   remote = remote;
   window = window;
+  unmarked = unmarked;
+  recovered = recovered;
   calls = λ s d f. (let g = h.calls s d f in record { some = g.some; drawn = g.drawn; none = g.none; up = λ u. opens (g.up u) });
 }
 
@@ -62,6 +68,8 @@ call_put_fits e i t s c h fit few = record {
   few = few;
   remote = h.remote;
   window = h.window;
+  unmarked = h.unmarked;
+  recovered = h.recovered;
   calls = λ q d f. ⊎_elim
       (λ (a : (q ≡ s) × (c ≡ d)). (let g : CallFits e t q c = subst (λ n. CallFits e t n c) (sym a.0) fit in
       let w : CallFits e t q d = subst (λ (z : Call). CallFits e t q z) a.1 g in
@@ -78,19 +86,25 @@ call_without_fits e i t s h = record {
   few = (let most = without_most t.calls s in let few = h.few in omega (arith, most, few));
   remote = h.remote;
   window = h.window;
+  unmarked = h.unmarked;
+  recovered = h.recovered;
   calls = λ q d f. (let g = h.calls q d (found_without t.calls s q d h.order f).1 in record { some = g.some; drawn = g.drawn; none = g.none; up = g.up });
 }
 
 -- one that has no calls
-pub bare_fits : (e : End) (i : ℕ) (c : Control) (ls : List Letter) → 0 < i → i < e.tunnel_ids.next → (state_number c.state ≡ 2 → 0 < c.remote) → 0 < peer_window c
-    → TunnelFits e i (record (new_tunnel c) { letters = ls })
-bare_fits e i c ls some drawn remote window = record {
+pub bare_fits : (e : End) (i : ℕ) (c : Control) (ls : List Letter) (q : Option Recovering) → 0 < i → i < e.tunnel_ids.next
+    → (state_number c.state ≡ 2 → 0 < c.remote) → 0 < peer_window c
+    → (state_number c.state < 3 → c.mark ≡ 0) → (is_current (mode_of q) ≡ false → state_number c.state ≡ 3)
+    → TunnelFits e i (record (new_tunnel c) { letters = ls; recovery = q })
+bare_fits e i c ls q some drawn remote window unmarked recovered = record {
   some = some;
   drawn = drawn;
   order = ascends-empty [] refl;
   few = omega arith;
   remote = remote;
   window = window;
+  unmarked = unmarked;
+  recovered = recovered;
   calls = λ s d f. absurd (none-some d (sym (at-none s) ∙ f));
 }
 

@@ -5,8 +5,17 @@ pub mod Fitting
 pub mod States
 pub mod Windows
 pub mod Changes
+pub mod Finished
 pub mod Moves
 pub mod Ceilings
 pub mod Steps
 pub mod Places
 pub mod Contents
+pub mod Openings
+pub mod Returning
+pub mod Pending
+pub mod Restoring
+pub mod Links
+pub mod Taken
+pub mod Starts
+pub mod Again

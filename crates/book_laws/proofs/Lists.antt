@@ -1,6 +1,6 @@
 -- Lists in the order of their ids.
-use Rattle.std.proofs.Common.{◌≡◌, ◌⊎◌, inl, inr, ℕ, zero, suc, ◌+◌, ◌<◌, ◌≤◌, Bool, true, false, cond, ◌&&◌, ◌==◌, eqb, List, [], ◌∷◌, length, filter, take, drop, slice_get, All, Option, Some, None, is_some, refl, sym, ◌∙◌, ap, subst, arith}
-use Rattle.std.specs.Prelude.{nat_lt, nat_le, nat_eq}
+use Rattle.std.proofs.Common.{◌≡◌, ◌⊎◌, inl, inr, ℕ, zero, suc, ◌+◌, ◌<◌, ◌≤◌, Bool, true, false, cond, ◌&&◌, ◌==◌, eqb, List, [], ◌∷◌, length, filter, map, take, drop, slice_get, All, Option, Some, None, is_some, refl, sym, ◌∙◌, ap, subst, arith}
+use Rattle.std.specs.Prelude.{nat_lt, nat_le, nat_eq, option_map}
 use Rattle.std.specs.List.{AllByRecursion, insert}
 use Rattle.std.specs.declared.cmp.Ordering.{Ordering}
 use Rattle.std.specs.declared.cmp.Ordering.TheVariants.{Less, Equal, Greater}
@@ -93,10 +93,10 @@ module _ {V : Type 0} where
 
 module _ {X : Type 0} (f : X → ℕ) where
   -- the first is below the rest, which rises
-  rises_from : (x : X) (xs : List X) → AreRising f (x ∷ xs) → AllByRecursion (λ z. f x < f z) xs
+  pub rises_from : (x : X) (xs : List X) → AreRising f (x ∷ xs) → AllByRecursion (λ z. f x < f z) xs
   rises_from x xs up = by_recursion (λ z. f x < f z) xs (λ k d inside. up zero (suc k) d (omega arith) (omega arith))
 
-  rest_rises : (x : X) (xs : List X) → AreRising f (x ∷ xs) → AreRising f xs
+  pub rest_rises : (x : X) (xs : List X) → AreRising f (x ∷ xs) → AreRising f xs
   rest_rises x xs up = λ i j d lt inside. up (suc i) (suc j) d (omega arith) (omega arith)
 
   pub none_rises : AreRising f []
@@ -107,7 +107,7 @@ module _ {X : Type 0} (f : X → ℕ) where
 
   -- ---- with an id or not
 
-  with_own : (id : ℕ) (x : X) → f x ≡ id → with_id f id (Some x) ≡ Some x
+  pub with_own : (id : ℕ) (x : X) → f x ≡ id → with_id f id (Some x) ≡ Some x
   with_own id x is = ap (λ b. cond b (Some x) None) (same (f x) id is)
 
   with_other : (id : ℕ) (x : X) → (f x ≡ id → ⊥) → with_id f id (Some x) ≡ None
@@ -141,10 +141,10 @@ module _ {X : Type 0} (f : X → ℕ) where
       by true n = let more : 1 + n ≡ suc n = omega arith in ap (λ m. insert (x ∷ xs) m y) more
       by false n = refl
 
-  entry_later : (id : ℕ) (x : X) (xs : List X) → f x < id → entry f id (x ∷ xs) ≡ entry f id xs
+  pub entry_later : (id : ℕ) (x : X) (xs : List X) → f x < id → entry f id (x ∷ xs) ≡ entry f id xs
   entry_later id x xs lt = entry_cons id x xs ∙ ap (λ b. cond b (entry f id xs) (with_id f id (Some x))) (below (f x) id lt)
 
-  entry_here : (id : ℕ) (x : X) (xs : List X) → id ≤ f x → entry f id (x ∷ xs) ≡ with_id f id (Some x)
+  pub entry_here : (id : ℕ) (x : X) (xs : List X) → id ≤ f x → entry f id (x ∷ xs) ≡ with_id f id (Some x)
   entry_here id x xs le = entry_cons id x xs ∙ ap (λ b. cond b (entry f id xs) (with_id f id (Some x))) (not_below (f x) id le)
 
   put_later : (y x : X) (xs : List X) → f x < f y → put f y (x ∷ xs) ≡ x ∷ put f y xs
@@ -285,6 +285,23 @@ module _ {X : Type 0} (f : X → ℕ) where
         | inr far ↦
             entry_above id (filter p xs) (all_filter (λ z. id < f z) p xs (all_to (λ z. f x < f z) (λ z. id < f z) (λ z lt. omega (arith, lt, far)) xs (rises_from x xs up)))
             ∙ sym (own false is) ∙ ap (passing p) (sym (entry_here id x xs far))
+      ]
+
+  -- ---- each is changed, and keeps its id
+
+  changed_own : (g : X → X) → ((x : X) → f (g x) ≡ f x) → (id : ℕ) (x : X) → with_id f id (Some (g x)) ≡ option_map g (with_id f id (Some x))
+  changed_own g stays id x = elim (cases_eq (f x) id) [
+    | inl e ↦ with_own id (g x) (stays x ∙ e) ∙ ap (option_map g) (sym (with_own id x e))
+    | inr ne ↦ with_other id (g x) (λ e. ne (sym (stays x) ∙ e)) ∙ ap (option_map g) (sym (with_other id x ne))
+  ]
+
+  pub entry_map : (g : X → X) → ((x : X) → f (g x) ≡ f x) → (id : ℕ) (xs : List X) → entry f id (map g xs) ≡ option_map g (entry f id xs)
+  entry_map g stays id [] = refl
+  entry_map g stays id (x ∷ xs) =
+      let own = stays x in
+      elim (cases_lt (f x) id) [
+        | inl near ↦ entry_later id (g x) (map g xs) (omega (arith, own, near)) ∙ entry_map g stays id xs ∙ ap (option_map g) (sym (entry_later id x xs near))
+        | inr far ↦ entry_here id (g x) (map g xs) (omega (arith, own, far)) ∙ changed_own g stays id x ∙ ap (option_map g) (sym (entry_here id x xs far))
       ]
 
   -- ---- how many there are

@@ -1,21 +1,22 @@
 -- What a book becomes where an end's tunnels and calls come up and go.
 use Rattle.std.proofs.Common.{◌≡◌, ⊎_elim, ℕ, ◌+◌, ◌<◌, ◌≤◌, Bool, true, false, cond, ◌==◌, not, ◌∷◌, length, filter, Option, Some, None, is_some, refl, sym, ◌∙◌, ap, subst, arith}
-use Rattle.std.specs.Prelude.{nat_eq}
+use Rattle.std.specs.Prelude.{nat_eq, option_map}
 use Rattle.std.proofs.lemmas.Option.{none-some}
 use Rattle.std.proofs.lemmas.Bool.{eqb-true, eqb-false}
 use Rattle.id_table.specs.Ids.{at}
 use Rattle.id_table.specs.Order.{same_or_not}
 use Rattle.session_book.specs.declared.record.BookTunnel.{BookTunnel}
 use Rattle.session_book.specs.declared.record.BookCall.{BookCall}
-use Rattle.session_book.specs.declared.record.Record.TheVariants.{TunnelUp, TunnelDown, CallUp, CallDown}
-use Rattle.session_book.specs.Books.{Kept, entry, put, tunnel_at, call_at, calls_of, fits, stepped}
+use Rattle.session_book.specs.declared.record.Record.TheVariants.{TunnelUp, TunnelDown, CallUp, CallDown, Mark}
+use Rattle.session_book.specs.Books.{Kept, entry, put, tunnel_at, call_at, calls_of, mark_on, is_marked_below, fits, stepped}
+use Rattle.session_book.proofs.Orders.{marked_rises}
 use Rattle.end_model.specs.declared.tunnel.Call.{Call}
 use Rattle.end_model.specs.Calls.{is_up}
 use Rattle.end_model.specs.End.{End}
 use Rattle.end_model.specs.Moments.{is_open}
 use Rattle.end_model.specs.Tunnels.{Tunnel}
 use Rattle.book_laws.specs.Books.{Mirrors, booked_control, booked_call, tunnel_record, call_record, record_in}
-use Rattle.book_laws.proofs.Lists.{below, within, same, other, both, filter_rises, put_rises, length_put, put_passes, entry_put, entry_put_other, entry_has, passing, entry_filter, all_found, no_more}
+use Rattle.book_laws.proofs.Lists.{below, within, same, other, both, filter_rises, put_rises, length_put, put_passes, entry_put, entry_put_other, entry_has, passing, entry_filter, entry_map, all_found, no_more}
 
 abbrev pub id_of : BookTunnel → ℕ
 id_of t = t.local
@@ -182,6 +183,50 @@ module _ (e x : End) (k : Kept) (book : Mirrors e k) where
       tunnels_rise = filter_rises id_of (λ t. not (t.local == i)) k.tunnels book.tunnels_rise;
       calls_rise = filter_rises session_of (λ c. not (c.tunnel == i)) k.calls book.calls_rise;
     }
+
+  -- the mark of an open tunnel rises
+  pub record MarkRises (i mark : ℕ) (b : BookTunnel) : Type 0 where
+    pub before : tunnel_record i (at e.tunnels i) ≡ Some b
+    pub after : tunnel_record i (at x.tunnels i) ≡ Some (record b { mark = mark })
+    pub others : SameTunnels i
+    pub calls : (j s : ℕ) → record_in j s (at x.tunnels j) ≡ record_in j s (at e.tunnels j)
+    pub higher : b.mark < mark
+
+  module _ (i mark : ℕ) (b : BookTunnel) (h : MarkRises i mark b) where
+    id_stays : (t : BookTunnel) → (mark_on i mark t).local ≡ t.local
+    id_stays t = by (t.local == i)
+      where
+        by : (q : Bool) → (cond q (record t { mark = mark }) t).local ≡ t.local
+        by true = refl
+        by false = refl
+
+    had : tunnel_at k i ≡ Some b
+    had = book.tunnels i ∙ h.before
+
+    marked_own : mark_on i mark b ≡ record b { mark = mark }
+    marked_own = ap (λ q. cond q (record b { mark = mark }) b) (same b.local i (entry_has id_of i k.tunnels b had))
+
+    marked_other : (j : ℕ) → (j ≡ i → ⊥) → (o : Option BookTunnel) → tunnel_at k j ≡ o → option_map (mark_on i mark) o ≡ o
+    marked_other j apart None is = refl
+    marked_other j apart (Some t) is =
+        let own = entry_has id_of j k.tunnels t is in
+        ap (λ q. Some (cond q (record t { mark = mark }) t)) (other t.local i (λ f. apart (sym own ∙ f)))
+
+    pub tunnel_marked : Mirrors x (stepped k (Mark i mark))
+    tunnel_marked = record {
+      tunnels = λ j. entry_map id_of (mark_on i mark) id_stays j k.tunnels ∙ ⊎_elim
+          (λ (own : j ≡ i). subst (λ n. option_map (mark_on i mark) (tunnel_at k n) ≡ tunnel_record n (at x.tunnels n)) (sym own)
+          (ap (option_map (mark_on i mark)) had ∙ ap (λ (t : BookTunnel). Some t) marked_own ∙ sym h.after))
+          (λ (o : j ≡ i → ⊥). marked_other j o (tunnel_at k j) refl ∙ book.tunnels j ∙ sym (h.others j o))
+          (same_or_not j i);
+      calls = λ s c f. h.calls c.tunnel s ∙ book.calls s c f;
+      all_calls = λ j s c f. book.all_calls j s c (sym (h.calls j s) ∙ f);
+      tunnels_rise = marked_rises i mark k.tunnels book.tunnels_rise;
+      calls_rise = book.calls_rise;
+    }
+
+    pub mark_fits : fits k (Mark i mark) ≡ true
+    mark_fits = ap (is_marked_below mark) had ∙ below b.mark mark h.higher
 
   -- a call comes up in an open tunnel
   pub record CallComes (c : BookCall) : Type 0 where

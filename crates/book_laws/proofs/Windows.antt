@@ -43,10 +43,11 @@ pub record Learns (w : ℕ) (c d : Control) : Type 0 where
   pub peer : d.peer ≡ c.peer
   pub flags : d.flags ≡ c.flags
   pub state : d.state ≡ c.state
+  pub mark : d.mark ≡ c.mark
 
 pub learnt_is : (w : ℕ) (c : Control) → (w ≡ 0 → ⊥) → Learns w c (learns_window w c)
 learnt_is w c some = by (w == 0) (other w 0 some)
   where
     by : (b : Bool) → b ≡ false → Learns w c (cond b c (record c { channel = record c.channel { window = window.learnt_by c.channel.window w } }))
-    by false e = record { window = refl; remote = refl; peer = refl; flags = refl; state = refl }
+    by false e = record { window = refl; remote = refl; peer = refl; flags = refl; state = refl; mark = refl }
     by true e = absurd cc

@@ -1,5 +1,5 @@
 -- The book of an end's checkpoint, and the end whose book it is.
-use Rattle.std.specs.Prelude.{◌≡◌, ℕ, ◌+◌, ◌≤◌, ◌<◌, true, List, [], ◌∷◌, ◌++◌, length, map, replicate, Option, Some, None, is_some, Ok, if◌then◌else◌}
+use Rattle.std.specs.Prelude.{◌≡◌, ℕ, ◌+◌, ◌≤◌, ◌<◌, true, false, List, [], ◌∷◌, ◌++◌, length, map, replicate, Option, Some, None, is_some, Ok, if◌then◌else◌}
 use Rattle.std.specs.List.{AllByRecursion}
 use Rattle.id_table.specs.Ids.{at}
 use Rattle.id_table.specs.Order.{Ascends}
@@ -10,6 +10,7 @@ use Rattle.end_names.specs.declared.role.Role.TheVariants.{Lac, Lns}
 use Rattle.session_book.specs.declared.record.BookTunnel.{BookTunnel}
 use Rattle.session_book.specs.declared.record.BookCall.{BookCall}
 use Rattle.session_book.specs.declared.record.Record.{Record}
+use Rattle.session_book.specs.declared.record.Record.TheVariants.{CallUp}
 use Rattle.session_book.specs.Books.{Kept, nothing_kept, AreRising, tunnel_at, call_at, fits, stepped, book_of}
 use Rattle.session_book.specs.Spelling.{content_of, FitsBytes}
 use Rattle.end_model.specs.declared.event.Event.{Event}
@@ -23,16 +24,16 @@ use Rattle.end_model.specs.Channels.{peer_window}
 use Rattle.end_model.specs.Contents.{records_of, contents_of}
 use Rattle.end_model.specs.End.{End, Stepped, new_end, plain_step}
 use Rattle.end_model.specs.Moments.{is_open}
-use Rattle.end_model.specs.Tunnels.{Tunnel}
+use Rattle.end_model.specs.Tunnels.{Tunnel, mode_of, is_current}
 use Rattle.step_laws.specs.Looks.{LooksAreTrue}
 use Rattle.step_laws.specs.Moves.{Does}
-use Rattle.step_laws.specs.Steps.{AreKept}
+use Rattle.step_laws.specs.Steps.{AreKept, IsOfNoStart}
 
 -- ---- what a book has of an end
 
--- an established tunnel
+-- an established tunnel, with its mark
 abbrev pub booked_control : ℕ → Control → BookTunnel
-booked_control i c = record { local = i; remote = c.remote; peer = c.peer; window = peer_window c; flags = c.flags; mark = 0 }
+booked_control i c = record { local = i; remote = c.remote; peer = c.peer; window = peer_window c; flags = c.flags; mark = c.mark }
 
 abbrev pub tunnel_record : ℕ → Option Tunnel → Option BookTunnel
 tunnel_record i (Some t) = if is_open t.control.state then Some (booked_control i t.control) else None
@@ -85,7 +86,7 @@ pub record CallFits (e : End) (t : Tunnel) (s : ℕ) (c : Call) : Type 0 where
   pub up : is_up c.state ≡ true → state_number t.control.state ≡ 3
 
 -- so is that of a tunnel; it has 4,096 calls at most. The id of its peer's is known where it waits for its SCCCN, and the peer's window
--- always is
+-- always is. It has no mark before it is established, and is established where it is frozen or restored
 pub record TunnelFits (e : End) (i : ℕ) (t : Tunnel) : Type 0 where
   pub some : 0 < i
   pub drawn : i < e.tunnel_ids.next
@@ -93,6 +94,8 @@ pub record TunnelFits (e : End) (i : ℕ) (t : Tunnel) : Type 0 where
   pub few : length t.calls ≤ 4096
   pub remote : state_number t.control.state ≡ 2 → 0 < t.control.remote
   pub window : 0 < peer_window t.control
+  pub unmarked : state_number t.control.state < 3 → t.control.mark ≡ 0
+  pub recovered : is_current (mode_of t.recovery) ≡ false → state_number t.control.state ≡ 3
   pub calls : (s : ℕ) (c : Call) → at t.calls s ≡ Some c → CallFits e t s c
 
 -- a call is in one tunnel
@@ -138,6 +141,21 @@ abbrev pub ContentsHaveTheBook : Type 0
 ContentsHaveTheBook =
     (rs : List Record) → AllByRecursion FitsBytes rs → AreInPlace nothing_kept rs → book_of (map (λ r. content_of r) rs) ≡ Ok (book_after nothing_kept rs)
 
+-- ---- what is recorded of the calls of a role
+
+-- a LAC's call has no numbers, and an LNS's no subscriber
+abbrev pub RecordsNone : Role → BookCall → Type 0
+RecordsNone Lac c = c.sequenced ≡ false
+RecordsNone Lns c = c.subscriber ≡ replicate 6 0
+
+-- so it is of each call of a book, and of one that comes up by a record
+abbrev pub SuitsRole : Role → Kept → Type 0
+SuitsRole r k = AllByRecursion (RecordsNone r) k.calls
+
+abbrev pub LeavesNone : Role → Record → Type 0
+LeavesNone r (CallUp c) = RecordsNone r c
+LeavesNone r x = Unit {0}
+
 -- ---- the laws
 
 -- the records of a move, and the book after them
@@ -146,16 +164,19 @@ pub record MoveIsBooked (x : End) (k : Kept) (m : Move) : Type 0 where
   pub mirrors : Mirrors x (book_after k (records_of m))
   pub fit : TablesFit x
 
+-- of each move of a step; the two that only a start makes are about tunnels that the book has and the end has no more
 abbrev pub MovesAreBooked : Type 0
 MovesAreBooked =
-    (e : End) (k : Kept) → TablesFit e → AreDrawn e k → Mirrors e k → (moment : ℕ) (ev : Event) (m : Move) (x : End) → Does e moment ev m x
-    → MoveIsBooked x k m
+    (e : End) (k : Kept) → TablesFit e → AreDrawn e k → Mirrors e k → (moment : ℕ) (ev : Event) (m : Move) (x : End) → IsOfNoStart m
+    → Does e moment ev m x → MoveIsBooked x k m
 
 -- the records of a step, and the book after them
 pub record StepIsBooked (e : End) (k : Kept) (s : Stepped) : Type 0 where
   pub in_place : AreInPlace k (contents_of e s)
   pub book : IsBook s.end (book_after k (contents_of e s))
   pub fit : Fits s.end
+  pub calls : AllByRecursion (LeavesNone e.role) (contents_of e s)
+  pub role : s.end.role ≡ e.role
 
 abbrev pub StepsAreBooked : Type 0
 StepsAreBooked =

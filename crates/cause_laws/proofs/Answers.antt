@@ -15,12 +15,11 @@ use Rattle.end_model.specs.declared.out.Out.{Out}
 use Rattle.end_model.specs.declared.out.Out.TheVariants.{Cause}
 use Rattle.world_model.specs.Texts.{Entry, Causes}
 use Rattle.step_laws.specs.Letters.{Among}
-use Rattle.wire_base.specs.declared.letter.Side.TheVariants as side
 use Rattle.world_model.specs.declared.packet.Packet.{Packet}
 use Rattle.end_names.specs.Names.{address_of}
 use Rattle.end_model.specs.Secrets.{uncovered_event}
 use Rattle.end_model.specs.End.{Stepped, step}
-use Rattle.step_laws.specs.Lines.{is_lac_at, is_lns_at, is_declared, has_call, has_tunnel, is_put_on, deliver_line, IsHeldAt, OfHand, hand_line}
+use Rattle.step_laws.specs.Lines.{is_lac_at, is_lns_at, is_declared, has_call, has_tunnel, is_put_on, deliver_line, OfHand, hand_line}
 use Rattle.world_model.specs.declared.held.Held.{Held}
 use Rattle.world_model.specs.World.{World, Node, taken_up, hand_move, Sender, Deed, Lined, after_step, given, entry_of, entries_of, shown, declared, lac_at, lns_at, with_call, with_tunnel, later, block_of, stepped, sender_of, line}
 use Rattle.world_model.specs.Run.{run}

@@ -21,12 +21,12 @@ use Rattle.pppoe_discovery.specs.Discovery.{refused, offer, admission, taken, di
 use Rattle.pppoe_discovery.specs.Replies.{pado, pads, refusal}
 use Rattle.pppoe_discovery.specs.Told.{pads_to}
 use Rattle.pppoe_session.specs.declared.Subscriber.{Subscriber}
-use Rattle.pppoe_session.specs.Subscribers.{subscriber_of, is_from, is_repeat, repeat_in}
+use Rattle.pppoe_session.specs.Subscribers.{is_repeat, repeat_in}
 use Rattle.end_names.specs.Names.{host_name, mac_of}
 use Rattle.end_model.specs.declared.event.Event.{Event}
 use Rattle.end_model.specs.declared.event.Event.TheVariants as event
 use Rattle.end_model.specs.End.{End}
-use Rattle.end_model.specs.Access.{Access, Coming, Ignores, Answers, Runs, Enters, coming, led_to, wants_call, of_call}
+use Rattle.end_model.specs.Access.{Access, is_host, Coming, Ignores, Answers, Runs, Enters, coming, led_to, wants_call, of_call}
 use Rattle.world_model.specs.World.{World}
 use Rattle.step_laws.specs.Hosts.{LacAt, discovered_at}
 use Rattle.cause_laws.specs.Refusals.{IsPadr, NoneIsOf, IsFirst, AsksFor, IsServed, IsRefusedFor, ForItsService, ForItsCookie}
@@ -386,21 +386,21 @@ module _ (a : Access) (e : End) (bytes : List ℕ) where
   LedSo (Enters src uniq asked) = IsEntry src uniq asked
 
   call_so : (src : List ℕ) (session : ℕ) (ev : Event)
-      → (is_some (at e.calls session) ≡ true → is_from src (subscriber_of a.held session) ≡ true → HostActs a e bytes ev) → (live is : Bool)
-      → is_some (at e.calls session) ≡ live → is_from src (subscriber_of a.held session) ≡ is → LedSo (of_call live is ev)
+      → (is_some (at e.calls session) ≡ true → is_host a src session ≡ true → HostActs a e bytes ev) → (live is : Bool)
+      → is_some (at e.calls session) ≡ live → is_host a src session ≡ is → LedSo (of_call live is ev)
   call_so src session ev acts false is l h = tt
   call_so src session ev acts true false l h = tt
   call_so src session ev acts true true l h = acts l h
 
   padt_acts : (src : List ℕ) (session : ℕ) → IsPadt a.key mac_at name_at bytes src session → is_some (at e.calls session) ≡ true
-      → is_from src (subscriber_of a.held session) ≡ true → HostActs a e bytes (event.Hang session)
+      → is_host a src session ≡ true → HostActs a e bytes (event.Hang session)
   padt_acts src session p live holds =
       let same : event.Hang p.frame.session ≡ event.Hang session = rw p.session_is refl in
       subst (HostActs a e bytes) same
       (HostLeaves p.frame (record { reads = p.reads; to = p.to; live = rw p.session_is live; holds = rw (p.source, p.session_is) holds }) p.discovery p.code)
 
   frame_acts : (src : List ℕ) (session start stop : ℕ) → IsSessionFrame a.key mac_at name_at bytes src session start stop → is_some (at e.calls session) ≡ true
-      → is_from src (subscriber_of a.held session) ≡ true → HostActs a e bytes (event.Payload session (take (stop - start) (drop start bytes)))
+      → is_host a src session ≡ true → HostActs a e bytes (event.Payload session (take (stop - start) (drop start bytes)))
   frame_acts src session start stop p live holds =
       let same : event.Payload p.frame.session (take (p.frame.end - p.frame.start) (drop p.frame.start bytes)) ≡ event.Payload session (take (stop - start) (drop start bytes)) =
       rw (p.session_is, p.start_is, p.stop_is) refl in
@@ -443,10 +443,10 @@ module _ (a : Access) (e : End) (bytes : List ℕ) where
   led_so (Reply because frame) h = AsDiscovery h
   led_so (Admit src service uniq relay) h = wants_so src service uniq relay h
   led_so (Left src session) h =
-      call_so src session (event.Hang session) (padt_acts src session h) (is_some (at e.calls session)) (is_from src (subscriber_of a.held session)) refl refl
+      call_so src session (event.Hang session) (padt_acts src session h) (is_some (at e.calls session)) (is_host a src session) refl refl
   led_so (Carried src session start stop) h =
       call_so src session (event.Payload session (take (stop - start) (drop start bytes))) (frame_acts src session start stop h) (is_some (at e.calls session))
-      (is_from src (subscriber_of a.held session)) refl refl
+      (is_host a src session) refl refl
 
   pub answered_so : (because : Option Cause) (frame : List ℕ) → coming a e bytes ≡ Answers because frame → IsAnswer because frame × (length bytes ≤ 2048)
   unfolding coming

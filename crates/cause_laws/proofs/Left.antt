@@ -37,9 +37,9 @@ module _ (laws : CallLaws) where
       let s = step old.end clock (block_of n number) event.Tick in
       let timed = record old { clock = clock; checkpoint = k } in
       let ended : Some node.end ≡ Some s.end =
-      sym (ap (λ o. option_map (λ (x : Node). x.end) o) is) ∙ stepped_seen (λ (x : Node). x.end) (λ x births. refl) w number n timed None s in
+      sym (ap (λ o. option_map (λ (x : Node). x.end) o) is) ∙ stepped_seen (λ (x : Node). x.end) (λ x births standings answers. refl) w number n timed None s in
       let at_clock : Some node.clock ≡ Some clock =
-      sym (ap (λ o. option_map (λ (x : Node). x.clock) o) is) ∙ stepped_seen (λ (x : Node). x.clock) (λ x births. refl) w number n timed None s in
+      sym (ap (λ o. option_map (λ (x : Node). x.clock) o) is) ∙ stepped_seen (λ (x : Node). x.clock) (λ x births standings answers. refl) w number n timed None s in
       let moment : clock ≡ node.clock = (let e = at_clock in cc) in
       let none : NoneIsLeftAt clock s.end = (
         laws.late old.end (kept n old was) (goods n old was).fine.sound clock (block_of n number),
@@ -51,7 +51,7 @@ module _ (laws : CallLaws) where
   fallen_none : (w : World) (number n : ℕ) (old : Node) (k : Checkpoint) → LeavesNone n (cut_line w number n old k)
   unfolding cut_line fallen
   fallen_none w number n old k node is =
-      let fell = fallen (block_of n number) old k in
+      let fell = fallen (block_of n number) old.end old k in
       let both : Some fell ≡ Some node = sym (at_new w.nodes n fell) ∙ is in
       let same : fell ≡ node = cc in
       let none : NoneIsLeftAt fell.clock fell.end = (
@@ -74,7 +74,7 @@ module _ (laws : CallLaws) where
       p.same left in
       subst (LeavesNone n) made again)
       (λ timed e k cut made.
-      subst (LeavesNone n) made (fallen_none w number n (record timed { end = (step timed.end timed.clock (block_of n number) event.Tick).end }) k))
+      subst (LeavesNone n) made (fallen_none w number n timed k))
       h
 
 -- the last line of a run that isn't refused

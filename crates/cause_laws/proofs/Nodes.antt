@@ -14,6 +14,8 @@ use Rattle.session_book.specs.Books.{Kept, fits, stepped as with_record}
 use Rattle.schedule_text.specs.declared.line.Line.{Line}
 use Rattle.schedule_text.specs.declared.line.Line.TheVariants.{Remark, Lac, Lns, OpenUp, Close, Ring, Frame, FromSub, Down, Hang, DropCall, Deliver, Load, Hand, Tick, Crash, Stop, Start}
 use Rattle.schedule_text.specs.Grammar.{FitsLine, AreLines}
+use Rattle.call_fsm.specs.declared.table.CallState.{CallState}
+use Rattle.call_fsm.specs.declared.table.CallState.TheVariants.{WaitTunnel, Established}
 use Rattle.end_names.specs.Names.{address_of, node_of}
 use Rattle.end_names.specs.declared.role.Role.{Role}
 use Rattle.end_names.specs.declared.role.Role.TheVariants as role
@@ -31,14 +33,16 @@ use Rattle.end_model.specs.End.{End, Stepped, plain_step, step}
 use Rattle.end_model.specs.Starting.{bare_end, starts}
 use Rattle.world_model.specs.declared.refusal.Refusal.{Refusal}
 use Rattle.world_model.specs.declared.refusal.Refusal.TheVariants.{Unfit}
+use Rattle.world_model.specs.declared.standing.Standing.{Standing}
 use Rattle.world_model.specs.declared.stop.StopAt.{StopAt}
-use Rattle.world_model.specs.World.{World, Node, Checkpoint, Sender, Lined, Committed, IsFull, IsCut, IsWhole, quiet_line, with_node, with_birth_at, with_birth, birth_of, is_born, moved, moved_all, sent, shown, shown_all, given, after_step, recorded, recorded_all, is_full, with_stop, kept_by, commits_by, commits, fallen, without_held, held_line, taken_up, cut_line, committed, declared, lac_at, lns_at, down_at, with_call, with_tunnel, later, new_node, added, block_of, stepped, sender_of, crashed, armed, opened, started, line}
+use Rattle.world_model.specs.World.{World, Node, Checkpoint, Sender, Lined, Committed, IsFull, IsCut, IsWhole, quiet_line, with_node, with_birth_at, with_birth, birth_of, is_born, standing_of, with_standing_at, with_standing, with_answer_at, answer_in, has_made, makes_epoch, enters_epoch, moved, moved_all, sent, shown, shown_all, given, after_step, recorded, recorded_all, is_full, with_stop, kept_by, commits_by, commits, fallen, without_held, held_line, taken_up, cut_line, committed, declared, lac_at, lns_at, down_at, with_call, with_tunnel, later, new_node, added, block_of, stepped, sender_of, crashed, armed, opened, started, line}
 use Rattle.world_model.specs.Run.{Run, empty_run, after_line, goes_on, run_from, run}
 use Rattle.step_laws.specs.Lines.{tested_not, is_lac_at, is_lns_at, is_declared, is_down_at, has_call, has_tunnel, IsAt, is_at, at_moment, is_later, WasWhole, committed_line, step_line, deliver_line, load_line, IsHeldAt, hand_line}
 use Rattle.step_laws.specs.Hosts.{with_host, entering, OfFrame, frame_line}
-use Rattle.step_laws.specs.Left.{AreSound, AreAsked, AreFew, CallsStaySound, CallsAreAsked, LateCallsEnd, FailedTunnelsGo, TunnelsBeginFew, TunnelsStayFew}
+use Rattle.step_laws.specs.Left.{CanBe, AreSound, AreAsked, AreFew, CallsStaySound, CallsAreAsked, LateCallsEnd, FailedTunnelsGo, TunnelsBeginFew, TunnelsStayFew}
 use Rattle.step_laws.specs.Steps.{AreKept}
-use Rattle.node_laws.specs.Nodes.{EndsOfRuns}
+use Rattle.book_laws.specs.Starts.{StartsAreBooked}
+use Rattle.node_laws.specs.Nodes.{HoldsNode, NodesOfRuns, EndsOfRuns}
 
 -- ---- laws of steps
 
@@ -50,10 +54,17 @@ pub record CallLaws : Type 0 where
   pub gone : FailedTunnelsGo
   pub begin_few : TunnelsBeginFew
   pub stay_few : TunnelsStayFew
+  -- and of the nodes of runs, and of starts
+  pub nodes : NodesOfRuns
+  pub starting : StartsAreBooked
 
 -- the ends of a world are kept
 abbrev pub EndsAreKept : World → Type 0
 EndsAreKept w = (n : ℕ) (node : Node) → at w.nodes n ≡ Some node → AreKept node.end
+
+-- and each node has the book of its end
+abbrev pub NodesHold : World → Type 0
+NodesHold w = (n : ℕ) (node : Node) → at w.nodes n ≡ Some node → HoldsNode node
 
 -- ---- stops
 
@@ -153,6 +164,28 @@ none_fine e none few = record {
 bare_fine : (r : Role) (c : Config) (k : Kept) → IsFine (bare_end r c k)
 bare_fine r c k = none_fine (bare_end r c k) refl (omega arith)
 
+-- a call that is established can be that of either role
+can_be_up : (r : Role) (s : CallState) → s ≡ Established → CanBe r s
+can_be_up role.Lac s up = subst (CanBe role.Lac) (sym up) tt
+can_be_up role.Lns s up = subst (CanBe role.Lns) (sym up) tt
+
+-- after a start each call is established, and has an id that was drawn
+start_fine : StartsAreBooked → (node : Node) → HoldsNode node → (moment : ℕ) (block : List ℕ)
+    → IsFine (starts node.end.role node.end.config node.checkpoint.book moment block).end
+start_fine starting node h moment block =
+    let b = starting node.end.role node.end.config node.checkpoint.book h.sound h.suits moment block in
+    let e = (starts node.end.role node.end.config node.checkpoint.book moment block).end in
+    record {
+      sound = λ i t there s c live.
+          (let drawn = ((b.fit.tables.tunnels i t there).calls s c live).drawn in
+          let next = b.fit.session_ids.drawn in
+          let last = b.fit.session_ids.within in
+          (omega (arith, drawn, next, last), can_be_up e.role c.state ((b.up i t there).1 s c live)));
+      asked = λ i t there open_is s c live waits.
+          (let both : WaitTunnel ≡ Established = sym waits ∙ (b.up i t there).1 s c live in cc);
+      few = b.fit.tables.few;
+    }
+
 -- ---- worlds
 
 put_good : (w : World) (n : ℕ) (node : Node) → AreGood w → IsGood node → AreGood (with_node w n node)
@@ -165,13 +198,52 @@ put_good w n node goods is m x there = ⊎_elim
     (λ o. goods m x (sym (at_other w.nodes n node m o) ∙ there))
     (same_or_not m n)
 
+-- a node with other births, standings or answers
+other_good : (w : World) (n : ℕ) (node more : Node) → at w.nodes n ≡ Some node → more.end ≡ node.end → more.checkpoint ≡ node.checkpoint
+    → AreGood w → AreGood (with_node w n more)
+other_good w n node more is end checkpoint goods =
+    let g = goods n node is in
+    put_good w n more goods (record {
+      fine = subst IsFine (sym end) g.fine;
+      real = subst (λ (k : Checkpoint). IsReal k.stop) (sym checkpoint) g.real;
+    })
+
 birth_good : (w : World) (n session birth : ℕ) → AreGood w → AreGood (with_birth w n session birth)
 unfolding with_birth
 birth_good w n session birth goods = by (at w.nodes n) refl
   where
     by : (o : Option Node) → at w.nodes n ≡ o → AreGood (with_birth_at w n session birth o)
     by None is = goods
-    by (Some node) is = let g = goods n node is in put_good w n (record node { births = put node.births session birth }) goods (record { fine = g.fine; real = g.real })
+    by (Some node) is = other_good w n node (record node { births = put node.births session birth }) is refl refl goods
+
+standing_good : (w : World) (n i : ℕ) (s : Standing) → AreGood w → AreGood (with_standing w n i s)
+unfolding with_standing
+standing_good w n i s goods = by (at w.nodes n) refl
+  where
+    by : (o : Option Node) → at w.nodes n ≡ o → AreGood (with_standing_at w n i s o)
+    by None is = goods
+    by (Some node) is = other_good w n node (record node { standings = put node.standings i s }) is refl refl goods
+
+answer_good : (w : World) (n answer epoch : ℕ) → AreGood w → AreGood (with_answer_at w n answer epoch (at w.nodes n))
+answer_good w n answer epoch goods = by (at w.nodes n) refl
+  where
+    by : (o : Option Node) → at w.nodes n ≡ o → AreGood (with_answer_at w n answer epoch o)
+    by None is = goods
+    by (Some node) is = other_good w n node (record node { answers = put node.answers answer epoch }) is refl refl goods
+
+made_good : (w : World) (n i epoch : ℕ) → AreGood w → AreGood (has_made w n i epoch)
+made_good w n i epoch goods = standing_good w n i (record (standing_of w n i) { made = epoch }) goods
+
+epoch_good : (w : World) (n i m j answer : ℕ) → AreGood w → AreGood (makes_epoch w n i m j answer)
+unfolding makes_epoch
+epoch_good w n i m j answer goods =
+    let epoch = min ((standing_of w n i).made + 1) (2 ^ 64 - 1) in
+    answer_good (has_made (has_made w n i epoch) m j epoch) n answer epoch
+    (made_good (has_made w n i epoch) m j epoch (made_good w n i epoch goods))
+
+enters_good : (w : World) (n i epoch : ℕ) → AreGood w → AreGood (enters_epoch w n i epoch)
+unfolding enters_epoch
+enters_good w n i epoch goods = standing_good w n i (record (standing_of w n i) { epoch = epoch; lost = None }) goods
 
 moved_good : (n : ℕ) (m : Move) (w : World) → AreGood w → AreGood (moved n w m)
 unfolding moved is_born
@@ -204,6 +276,14 @@ moved_good n (move.FrameSent m) w goods = goods
 moved_good n (move.FrameUp m) w goods = goods
 moved_good n (move.Cleared i booked) w goods = goods
 moved_good n (move.Quiet i) w goods = goods
+moved_good n (move.Froze m) w goods = epoch_good w n m.tunnel (node_of m.peer) m.remote m.answer goods
+moved_good n (move.ResetAttempting m) w goods = enters_good w n m.tunnel (answer_in (at w.nodes (node_of m.peer)) m.answer) goods
+moved_good n (move.ResetAnswering m) w goods = enters_good w n m.tunnel (answer_in (at w.nodes n) m.answer) goods
+moved_good n (move.Restored m) w goods = goods
+moved_good n (move.Forgot m) w goods = goods
+moved_good n (move.RecoveryWentOn i) w goods = goods
+moved_good n (move.RecoveryEnded i) w goods = goods
+moved_good n (move.Ignored i) w goods = goods
 
 all_good : (n : ℕ) (ms : List Move) (w : World) → AreGood w → AreGood (moved_all n ms w)
 unfolding moved_all
@@ -244,7 +324,7 @@ module _ (laws : CallLaws) (w : World) (number : ℕ) (kept : EndsAreKept w) (go
 
   cut_good : (n : ℕ) (node : Node) (k : Checkpoint) → AreGood (cut_line w number n node k).world
   unfolding cut_line fallen
-  cut_good n node k = put_good w n (fallen (block_of n number) node k) goods (record { fine = bare_fine node.end.role node.end.config k.book; real = none_real })
+  cut_good n node k = put_good w n (fallen (block_of n number) node.end node k) goods (record { fine = bare_fine node.end.role node.end.config k.book; real = none_real })
 
   commit_good : (n : ℕ) (node : Node) (sender : Option Sender) (s : Stepped) → IsFine s.end → IsReal node.checkpoint.stop
       → (x : Lined) → committed w number n node sender s ≡ Ok x → AreGood x.world
@@ -254,7 +334,7 @@ module _ (laws : CallLaws) (w : World) (number : ℕ) (kept : EndsAreKept w) (go
       subst (λ (l : Lined). AreGood l.world) e
       (after_good n (record node { checkpoint = k }) sender s
       (record { fine = fine; real = still_real node.checkpoint (contents_of node.end s) is k whole })))
-      (λ k cut e. subst (λ (l : Lined). AreGood l.world) e (cut_good n (record node { end = s.end }) k))
+      (λ k cut e. subst (λ (l : Lined). AreGood l.world) e (cut_good n node k))
       made
 
   stepped_good : (x : Lined) (n : ℕ) (ev : Event) (sender : Option Sender) (o : Result Node Why)
@@ -297,9 +377,9 @@ module _ (laws : CallLaws) (w : World) (number : ℕ) (kept : EndsAreKept w) (go
     cut = λ l ev node is x h c. one_good n ev node is x h;
   }
 
-module _ (laws : CallLaws) (w : World) (number : ℕ) (kept : EndsAreKept w) (goods : AreGood w) where
+module _ (laws : CallLaws) (w : World) (number : ℕ) (kept : EndsAreKept w) (holds : NodesHold w) (goods : AreGood w) where
   line_good : (x : Lined) (l : Line) → FitsLine l → line w number l ≡ Ok x → AreGood x.world
-  unfolding line crashed armed started starts fallen held_line
+  unfolding line crashed armed started fallen held_line
   line_good x (Remark text) f h = let e : quiet_line w ≡ x = cc in subst (λ (l : Lined). AreGood l.world) e goods
   line_good x (Lac n m secret hide) f h = added_good laws w number kept goods n role.Lac (address_of m) secret hide x h
   line_good x (Lns n secret) f h = added_good laws w number kept goods n role.Lns 0 secret false x h
@@ -349,7 +429,7 @@ module _ (laws : CallLaws) (w : World) (number : ℕ) (kept : EndsAreKept w) (go
       by : (o : Result Node Why) → crashed w number n o ≡ Ok x → AreGood x.world
       by (Err y) h = absurd (cc)
       by (Ok node) h =
-          let down = fallen (block_of n number) node node.checkpoint in
+          let down = fallen (block_of n number) node.end node node.checkpoint in
           let e : quiet_line (without_held (with_node w n down) n) ≡ x = cc in
           subst (λ (l : Lined). AreGood l.world) e (put_good w n down goods
           (record { fine = bare_fine node.end.role node.end.config node.checkpoint.book; real = none_real }))
@@ -369,8 +449,10 @@ module _ (laws : CallLaws) (w : World) (number : ℕ) (kept : EndsAreKept w) (go
       by : (o : Result Node Why) → ((node : Node) → o ≡ Ok node → (at w.nodes n ≡ Some node) × (node.up ≡ false)) → started w number n o ≡ Ok x → AreGood x.world
       by (Err y) is h = absurd (cc)
       by (Ok node) is h =
-          commit_good laws w number kept goods n (opened (block_of n number) node) None (starts node.end.role node.end.config node.checkpoint.book)
-          (bare_fine node.end.role node.end.config node.checkpoint.book) (goods n node (is node refl).0).real x h
+          let there = (is node refl).0 in
+          let s = starts node.end.role node.end.config node.checkpoint.book node.clock (block_of n number) in
+          commit_good laws w number kept goods n (opened (block_of n number) node) None s
+          (start_fine laws.starting node (holds n node there) node.clock (block_of n number)) (goods n node there).real x h
 
 -- ---- runs
 
@@ -387,11 +469,14 @@ pub all_left : {X : Type 0} (P : X → Type 0) (xs ys : List X) → AllByRecursi
 all_left P [] ys h = tt
 all_left P (x ∷ xs) ys h = (h.0, all_left P xs ys h.1)
 
--- the ends are kept after each front of the lines that follow a run
-abbrev KeptAlong : ℕ → List Line → Run → Type 0
-KeptAlong number lines r = (front rest : List Line) → lines ≡ front ++ rest → EndsAreKept (run_from number front r).world
+-- the ends are kept after each front of the lines that follow a run, and the nodes have their books
+abbrev AreHeld : World → Type 0
+AreHeld w = EndsAreKept w × NodesHold w
 
-kept_here : (number : ℕ) (lines : List Line) (r : Run) → KeptAlong number lines r → EndsAreKept r.world
+abbrev KeptAlong : ℕ → List Line → Run → Type 0
+KeptAlong number lines r = (front rest : List Line) → lines ≡ front ++ rest → AreHeld (run_from number front r).world
+
+kept_here : (number : ℕ) (lines : List Line) (r : Run) → KeptAlong number lines r → AreHeld r.world
 unfolding run_from
 kept_here number lines r along = along [] lines refl
 
@@ -399,7 +484,7 @@ kept_next : (number : ℕ) (l : Line) (ls : List Line) (r : Run) (x : Lined) →
     → KeptAlong (number + 1) ls (after_line r x)
 unfolding run_from goes_on
 kept_next number l ls r x is along front rest split =
-    subst (λ (o : Result Lined Refusal). EndsAreKept (goes_on (run_from (number + 1) front) r number o).world) is
+    subst (λ (o : Result Lined Refusal). AreHeld (goes_on (run_from (number + 1) front) r number o).world) is
     (along (l ∷ front) rest (ap (λ (ks : List Line). l ∷ ks) split))
 
 module _ (laws : CallLaws) (ends : EndsOfRuns) where
@@ -411,14 +496,16 @@ module _ (laws : CallLaws) (ends : EndsOfRuns) where
       where_it_fits (λ (q : Run). AreGood q.world) _ r number (line r.world number l) (λ fault. goods)
       (λ x h.
       goods_from (number + 1) ls (after_line r x) fits.1 (kept_next number l ls r x h along)
-      (line_good laws r.world number (kept_here number (l ∷ ls) r along) goods x l fits.0 h))
+      (let held = kept_here number (l ∷ ls) r along in line_good laws r.world number held.0 held.1 goods x l fits.0 h))
 
   pub kept_in : (lines : List Line) → AreLines lines → EndsAreKept (run lines).world
   kept_in lines fits n node is = (ends lines fits n node is).0
 
   pub goods_in : (lines : List Line) → AreLines lines → AreGood (run lines).world
   goods_in lines fits =
-      goods_from 1 lines empty_run fits (λ front rest split. kept_in front (all_left FitsLine front rest (subst AreLines split fits)))
+      goods_from 1 lines empty_run fits (λ front rest split.
+      (let first = all_left FitsLine front rest (subst AreLines split fits) in
+      (kept_in front first, λ n node is. laws.nodes front first n node is)))
       (λ n node h. absurd (none-some node (sym (at-none n) ∙ h)))
 
 -- ---- lines that are cut off, and lines that aren't
@@ -438,5 +525,5 @@ pub whole_step : (P : Type 0) (w : World) (number : ℕ) (x : Lined) (n : ℕ) (
 whole_step P w number x n ev sender o whole uncut h =
     step_line P w number x n ev sender o whole
     (λ node e k cut made.
-    absurd (true≢false (sym (was_cut w number n (record node { end = (step node.end node.clock (block_of n number) ev).end }) k x made) ∙ uncut)))
+    absurd (true≢false (sym (was_cut w number n node k x made) ∙ uncut)))
     h

@@ -5,6 +5,7 @@ use Rattle.world_model.specs.Run.{run}
 use Rattle.step_laws.specs.Room.{StepsRefuseTruly, FullAreRefused}
 use Rattle.step_laws.specs.Causes.{CausesStand}
 use Rattle.step_laws.specs.Rings.{RingsCome}
+use Rattle.book_laws.specs.Starts.{StartsSendOnly}
 use Rattle.node_laws.specs.Nodes.{EndsOfRuns}
 use Rattle.cause_laws.specs.Causes.{CausesOfRuns, RoomInRuns}
 use Rattle.cause_laws.proofs.Nodes.{CallLaws, all_left, kept_in, goods_in}
@@ -18,12 +19,12 @@ module _ (laws : CallLaws) (ends : EndsOfRuns) where
       let k = (kept_in laws ends lines fits n node is).tunnels i t there in
       record { letters = λ live. rw k.letters (k.few live); most = rw k.letters k.most; shut = k.shut; calls = k.calls_few }
 
-  pub causes_of_runs : CausesStand → StepsRefuseTruly → RingsCome → FullAreRefused → CausesOfRuns
-  causes_of_runs causes room rings full lines fits before after l split =
+  pub causes_of_runs : CausesStand → StepsRefuseTruly → StartsSendOnly → RingsCome → FullAreRefused → CausesOfRuns
+  causes_of_runs causes room quiet rings full lines fits before after l split =
       let whole : AreLines (before ++ l ∷ after) = subst AreLines split fits in
       let first = all_left FitsLine before (l ∷ after) whole in
       let kept = kept_in laws ends before first in (
-        line_true causes room rings (run before).world kept (length before + 1) l,
+        line_true causes room quiet rings (run before).world kept (length before + 1) l,
         room_told full (run before).world kept (length before + 1) l,
         hosts_answered rings (run before).world kept (goods_in laws ends before first) (length before + 1) l,
       )

@@ -1,6 +1,6 @@
--- What a step leaves of the nodes of a world, whatever births they have.
-use Rattle.std.proofs.Common.{◌≡◌, ⊎_elim, ℕ, List, [], ◌∷◌, refl, ap, ◌∙◌, Option, Some, None}
-use Rattle.std.specs.Prelude.{option_map}
+-- What a step leaves of the nodes of a world, whatever births, standings and answers they have.
+use Rattle.std.proofs.Common.{◌≡◌, ⊎_elim, ℕ, ◌+◌, ◌-◌, ◌^◌, List, [], ◌∷◌, refl, ap, ◌∙◌, Option, Some, None}
+use Rattle.std.specs.Prelude.{min, option_map}
 use Rattle.id_table.specs.Ids.{at, put}
 use Rattle.id_table.specs.Order.{at_new, at_other, same_or_not}
 use Rattle.end_model.specs.declared.moves.Move.{Move}
@@ -9,7 +9,8 @@ use Rattle.end_model.specs.End.{Stepped}
 use Rattle.end_names.specs.Names.{node_of}
 use Rattle.end_model.specs.declared.out.Out.{Out}
 use Rattle.end_model.specs.declared.out.Out.TheVariants.{Send, Up, Gone, Drop, Cause}
-use Rattle.world_model.specs.World.{World, Node, Sender, with_node, with_birth_at, with_birth, is_born, moved, moved_all, sent, shown, shown_all, given, after_step}
+use Rattle.world_model.specs.declared.standing.Standing.{Standing}
+use Rattle.world_model.specs.World.{World, Node, Sender, with_node, with_birth_at, with_birth, is_born, standing_of, with_standing_at, with_standing, with_answer_at, answer_in, has_made, makes_epoch, enters_epoch, moved, moved_all, sent, shown, shown_all, given, after_step}
 
 -- what is shown is nothing to the nodes
 shown_nodes : (n : ℕ) (os : List Out) (w : World) → (shown_all n os w).nodes ≡ w.nodes
@@ -21,7 +22,9 @@ shown_nodes n (Gone session ∷ os) w = shown_nodes n os w
 shown_nodes n (Drop x ∷ os) w = shown_nodes n os w
 shown_nodes n (Cause x ∷ os) w = shown_nodes n os w
 
-module _ {X : Type 0} (see : Node → X) (still : (node : Node) (births : List (ℕ × ℕ)) → see (record node { births = births }) ≡ see node) where
+module _ {X : Type 0} (see : Node → X)
+    (still : (node : Node) (births : List (ℕ × ℕ)) (standings : List (ℕ × Standing)) (answers : List (ℕ × ℕ))
+    → see (record node { births = births; standings = standings; answers = answers }) ≡ see node) where
   abbrev seen_at : World → ℕ → Option X
   seen_at w k = option_map see (at w.nodes k)
 
@@ -42,11 +45,45 @@ module _ {X : Type 0} (see : Node → X) (still : (node : Node) (births : List (
       by None is = λ k. refl
       by (Some node) is =
           let births = put node.births session birth in
-          with_same w n node (record node { births = births }) is (still node births)
+          with_same w n node (record node { births = births }) is (still node births node.standings node.answers)
 
   born_same : (w : World) (n session : ℕ) → Same w (is_born w n session)
   unfolding is_born
   born_same w n session = birth_same (record w { born = _ }) n session _
+
+  standing_same : (w : World) (n i : ℕ) (s : Standing) → Same w (with_standing w n i s)
+  unfolding with_standing
+  standing_same w n i s = by (at w.nodes n) refl
+    where
+      by : (o : Option Node) → at w.nodes n ≡ o → Same w (with_standing_at w n i s o)
+      by None is = λ k. refl
+      by (Some node) is =
+          let standings = put node.standings i s in
+          with_same w n node (record node { standings = standings }) is (still node node.births standings node.answers)
+
+  answer_same : (w : World) (n answer epoch : ℕ) → Same w (with_answer_at w n answer epoch (at w.nodes n))
+  answer_same w n answer epoch = by (at w.nodes n) refl
+    where
+      by : (o : Option Node) → at w.nodes n ≡ o → Same w (with_answer_at w n answer epoch o)
+      by None is = λ k. refl
+      by (Some node) is =
+          let answers = put node.answers answer epoch in
+          with_same w n node (record node { answers = answers }) is (still node node.births node.standings answers)
+
+  made_same : (w : World) (n i epoch : ℕ) → Same w (has_made w n i epoch)
+  made_same w n i epoch = standing_same w n i (record (standing_of w n i) { made = epoch })
+
+  epoch_same : (w : World) (n i m j answer : ℕ) → Same w (makes_epoch w n i m j answer)
+  unfolding makes_epoch
+  epoch_same w n i m j answer k =
+      let epoch = min ((standing_of w n i).made + 1) (2 ^ 64 - 1) in
+      let one = has_made w n i epoch in
+      let both = has_made one m j epoch in
+      answer_same both n answer epoch k ∙ made_same one m j epoch k ∙ made_same w n i epoch k
+
+  enters_same : (w : World) (n i epoch : ℕ) → Same w (enters_epoch w n i epoch)
+  unfolding enters_epoch
+  enters_same w n i epoch = standing_same w n i (record (standing_of w n i) { epoch = epoch; lost = None })
 
   move_same : (n : ℕ) (w : World) (m : Move) → Same w (moved n w m)
   unfolding moved
@@ -78,6 +115,14 @@ module _ {X : Type 0} (see : Node → X) (still : (node : Node) (births : List (
   move_same n w (move.Counted m) = λ k. refl
   move_same n w (move.FrameSent m) = λ k. refl
   move_same n w (move.FrameUp m) = λ k. refl
+  move_same n w (move.Restored m) = λ k. refl
+  move_same n w (move.Forgot m) = λ k. refl
+  move_same n w (move.Froze m) = epoch_same w n m.tunnel (node_of m.peer) m.remote m.answer
+  move_same n w (move.ResetAttempting m) = enters_same w n m.tunnel (answer_in (at w.nodes (node_of m.peer)) m.answer)
+  move_same n w (move.ResetAnswering m) = enters_same w n m.tunnel (answer_in (at w.nodes n) m.answer)
+  move_same n w (move.RecoveryWentOn i) = λ k. refl
+  move_same n w (move.RecoveryEnded i) = λ k. refl
+  move_same n w (move.Ignored i) = λ k. refl
 
   moves_same : (n : ℕ) (ms : List Move) (w : World) → Same w (moved_all n ms w)
   unfolding moved_all

@@ -120,12 +120,17 @@ pub data FrameIsTrue (w : World) (line : ℕ) (l : Line) (n : ℕ) (frame : List
       → AnswersEntry lac.node.end (Admit src service uniq relay) (step lac.node.end lac.node.clock (block_of n line) (event.Admitted src)) frame
       → FrameIsTrue w line l n frame
 
--- it has the number of its line
+-- a line that is no start
+abbrev pub IsNoStart : Line → Type 0
+IsNoStart (Start n) = ⊥
+IsNoStart l = Unit {0}
+
+-- it has the number of its line; and a start drops nothing, and hands nothing up, as it tells no cause
 abbrev pub IsTrue : World → ℕ → Line → Entry → Type 0
 IsTrue w line l (Causes number n c) = (number ≡ line) × CauseStandsIn w l n c
-IsTrue w line l (Drops number n x) = (number ≡ line) × (x ≡ why.Queue → IsFullAt w l n)
+IsTrue w line l (Drops number n x) = (number ≡ line) × (x ≡ why.Queue → IsFullAt w l n) × IsNoStart l
 IsTrue w line l (Sends number packet from to bytes) = number ≡ line
-IsTrue w line l (HandsUp number n session birth side frame) = number ≡ line
+IsTrue w line l (HandsUp number n session birth side frame) = (number ≡ line) × IsNoStart l
 IsTrue w line l (Holds number n k) = number ≡ line
 IsTrue w line l (Ends number n session padt) = number ≡ line
 IsTrue w line l (Stopped number n) = number ≡ line

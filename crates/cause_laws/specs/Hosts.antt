@@ -5,6 +5,7 @@ use Rattle.std.specs.List.{AllByRecursion, flat_map}
 use Rattle.id_table.specs.Ids.{at}
 use Rattle.id_source.specs.Spaces.{takes_id}
 use Rattle.wire_base.specs.declared.cause.Cause.{Cause}
+use Rattle.wire_base.specs.declared.cause.Cause.TheVariants as cause
 use Rattle.schedule_text.specs.declared.line.Line.{Line}
 use Rattle.schedule_text.specs.declared.line.Line.TheVariants.{Frame}
 use Rattle.pppoe_wire.specs.declared.frame.Pppoe.{Pppoe}
@@ -18,12 +19,11 @@ use Rattle.pppoe_discovery.specs.Told.{pads_to}
 use Rattle.pppoe_discovery.specs.declared.outcome.Discovered.{Discovered}
 use Rattle.pppoe_discovery.specs.declared.outcome.Discovered.TheVariants.{Admit}
 use Rattle.pppoe_session.specs.declared.Subscriber.{Subscriber}
-use Rattle.pppoe_session.specs.Subscribers.{subscriber_of, is_from}
 use Rattle.end_names.specs.Names.{host_name, mac_of}
 use Rattle.end_model.specs.declared.event.Event.{Event}
 use Rattle.end_model.specs.declared.event.Event.TheVariants as event
 use Rattle.end_model.specs.End.{End, Stepped, step}
-use Rattle.end_model.specs.Access.{Access}
+use Rattle.end_model.specs.Access.{Access, is_host}
 use Rattle.world_model.specs.Texts.{Entry, Frames, Causes}
 use Rattle.world_model.specs.World.{World, Deed, Lined, block_of, line}
 use Rattle.step_laws.specs.Answers.{causes_of}
@@ -86,7 +86,7 @@ pub record IsOfCall (a : Access) (e : End) (bytes : List ℕ) (f : Pppoe) : Type
   pub reads : frame_of bytes ≡ Ok f
   pub to : is_for (mac_of e.config.number) f ≡ true
   pub live : is_some (at e.calls f.session) ≡ true
-  pub holds : is_from f.src (subscriber_of a.held f.session) ≡ true
+  pub holds : is_host a f.src f.session ≡ true
 
 -- what the host of a call does: it sends a session frame (00), whose payload goes into the call, or leaves by a PADT (a7)
 pub data HostActs (a : Access) (e : End) (bytes : List ℕ) : Event → Type 0 where
@@ -105,7 +105,7 @@ pub data FrameBrings (w : World) (n : ℕ) (bytes : List ℕ) (ev : Event) : Typ
 -- ---- answers
 
 -- a host that entered gets the PADS of the session that was drawn for it, where its call lives after the step; else the step tells one cause,
--- of those for which a ring is refused, and no other, no call is made, and the host gets the PADS that refuses with that cause
+-- of those for which a ring is refused, and no other, no call is made, and the host gets the PADS that refuses so
 pub data AnswersEntry (before : End) (asked : Discovered) (s : Stepped) (frame : List ℕ) : Type 0 where
   WithSession : (session : ℕ) → takes_id before.session_ids ≡ Ok session → is_some (at s.end.calls session) ≡ true
       → frame ≡ pads_to (mac_of before.config.number) asked session None → AnswersEntry before asked s frame

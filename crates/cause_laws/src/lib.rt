@@ -4,7 +4,8 @@
 
 ghost use Rattle.cause_laws.specs.Answers.{AnswersOfRuns};
 ghost use Rattle.cause_laws.specs.Causes.{CausesOfRuns, NoneIsLeftInRuns, RoomInRuns, TunnelsAreFewInRuns};
-ghost use Rattle.node_laws.specs.Nodes.{EndsOfRuns};
+ghost use Rattle.book_laws.specs.Starts.{StartsAreBooked, StartsSendOnly};
+ghost use Rattle.node_laws.specs.Nodes.{EndsOfRuns, NodesOfRuns};
 ghost use Rattle.step_laws.specs.Answers.{RequestsAreAnswered};
 ghost use Rattle.step_laws.specs.Causes.{CausesStand};
 ghost use Rattle.step_laws.specs.Left.{CallsAreAsked, CallsStaySound, FailedTunnelsGo, LateCallsEnd, TunnelsBeginFew, TunnelsStayFew};
@@ -24,7 +25,10 @@ fn laws_below()
     ensures begin_few { TunnelsBeginFew }
     ensures stay_few { TunnelsStayFew }
     ensures answers { RequestsAreAnswered }
+    ensures nodes { NodesOfRuns }
     ensures ends { EndsOfRuns }
+    ensures starting { StartsAreBooked }
+    ensures quiet { StartsSendOnly }
 {
     step_laws::causes_stand();
     step_laws::steps_refuse_truly();
@@ -34,16 +38,17 @@ fn laws_below()
     step_laws::tunnels_stay_few();
     step_laws::requests_are_answered();
     node_laws::books_are_of_ends();
+    book_laws::starts_are_booked();
 }
 
-/// Over every list of lines of the grammar, crashes among them, each cause that an entry of the report tells stands in the world before
-/// the entry's line, and none does that counts before it; and a message is dropped for want of room only where it is the next one of a
-/// tunnel that holds so many letters, with those that its calls owe, that four more would be too many. And each such message that
-/// names its tunnel is told so. Each frame that an entry tells answers a host; a host that enters and gets no call gets the one cause that the step
-/// tells. And each host is answered: a PADI for a service that is served by its PADO alone; a PADR by one PADS, which has the cause that is
-/// told where discovery refuses it, and comes alone where it repeats that of a live call; else the host's address rings. No stop cuts
-/// off the answer to a PADI, or to a PADR that is refused or repeated; of any other step that a stop cut off it isn't said that it answers, nor
-/// that it tells of room.
+/// Over every list of lines of the grammar, crashes among them, each cause that an entry of the report tells stands in the world before the
+/// entry's line, and none does that counts before it; and a message is dropped for want of room only where it is the next one of a tunnel
+/// that holds so many letters, with those that its calls owe, that four more would be too many. And each such message that names its tunnel
+/// is told so. Each frame that an entry tells answers a host; a host that enters and gets no call gets the one cause that the step tells.
+/// And each host is answered: a PADI for a service that is served by its PADO alone; a PADR by one PADS, which
+/// has the cause that is told where discovery refuses it, and comes alone where it repeats that of a live call; else the host's address
+/// rings. No stop cuts off the answer to a PADI, or to a PADR that is refused or repeated; of any other step that a stop cut off it isn't
+/// said that it answers, nor that it tells of room. A start tells no cause, drops nothing and hands nothing up.
 pub fn reports_tell_true_causes()
     ensures { CausesOfRuns }
 {

@@ -1,11 +1,13 @@
 use crate::judging::{bytes_of, none_is_wrong};
 use end_model::{
     Accepted, Closed, ClosedBy, Confirmed, Connected, Declined, EndHeard, EndSilent, EndTold,
-    FirstUp, Move, NrRead, Out, Place, Refused, Rejected, SecondUp,
+    FirstUp, Forgot, Froze, Move, NrRead, Out, Place, Refused, Rejected, ResetAnswering,
+    ResetAttempting, Restored, SecondUp,
 };
 use node_notes::push_notes;
+use session_book::{BookCall, BookTunnel};
 use std::alloc::Global;
-use wire_base::{Cause, Why};
+use wire_base::{Cause, NoMemory, Sequence, Why};
 
 // The lines were written by hand, by the table of forms in docs/notes.md.
 
@@ -174,6 +176,88 @@ fn read(tunnel: u16) -> Move {
     Move::NrRead(NrRead { tunnel, nr: 77 })
 }
 
+/// The call of a tunnel that was kept.
+const KEPT: BookCall = BookCall {
+    local: 91,
+    tunnel: 15,
+    remote: 92,
+    subscriber: [2, 0, 0, 0, 0x0b, 0xc5],
+    sequenced: false,
+};
+
+/// A tunnel that is there again, with a call.
+fn restored(alloc: Global, tunnel: u16, peer: u32, remote: u16) -> Result<Move, NoMemory> {
+    let mut calls = Sequence::new(alloc);
+    calls.push(KEPT)?;
+    Ok(Move::Restored(Restored {
+        tunnel: BookTunnel {
+            local: tunnel,
+            remote,
+            peer,
+            window: 73,
+            flags: 3,
+            mark: 78,
+        },
+        calls,
+        attempt: 79,
+        draw: 80,
+        challenge: None,
+    }))
+}
+
+/// Whether it has these lines, and its call none.
+fn restored_row(alloc: Global, tunnel: u16, peer: u32, remote: u16, lines: &[u8]) -> bool {
+    match restored(alloc, tunnel, peer, remote) {
+        Ok(step) => row(alloc, step, lines),
+        Err(_) => false,
+    }
+}
+
+fn forgot(tunnel: u16) -> Move {
+    Move::Forgot(Forgot { tunnel })
+}
+
+fn froze(tunnel: u16) -> Move {
+    Move::Froze(Froze {
+        tunnel,
+        peer: 75,
+        remote: 76,
+        attempt: 79,
+        answer: 81,
+        asked: 80,
+        draw: 82,
+        expect: 83,
+        send_from: 84,
+        marked: true,
+    })
+}
+
+fn reset_attempting(tunnel: u16) -> Move {
+    Move::ResetAttempting(ResetAttempting {
+        tunnel,
+        peer: 75,
+        remote: 76,
+        attempt: 79,
+        answer: 81,
+        draw: 82,
+        send_from: 83,
+        expect: 84,
+        marked: true,
+    })
+}
+
+fn reset_answering(tunnel: u16) -> Move {
+    Move::ResetAnswering(ResetAnswering {
+        tunnel,
+        peer: 75,
+        remote: 76,
+        answer: 81,
+        attempt: 79,
+        send_from: 84,
+        expect: 83,
+    })
+}
+
 fn because(cause: Cause) -> Out {
     Out::Cause { cause }
 }
@@ -241,13 +325,27 @@ fn row_at(alloc: Global, at: u8) -> bool {
         17 => row(alloc, declined(), b""),
         18 => row(alloc, refused(12), b""),
         19 => row(alloc, read(13), b""),
+        20 => restored_row(
+            alloc,
+            15,
+            0xc633_6411,
+            16,
+            b"tunnel 15 restored peer 198.51.100.17 remote 16\n",
+        ),
+        21 => row(alloc, forgot(17), b"tunnel 17 lost\n"),
+        22 => row(alloc, froze(18), b"tunnel 18 frozen\n"),
+        23 => row(alloc, reset_attempting(19), b"tunnel 19 recovered\n"),
+        24 => row(alloc, reset_answering(20), b"tunnel 20 recovered\n"),
+        25 => row(alloc, Move::RecoveryWentOn { tunnel: 21 }, b""),
+        26 => row(alloc, Move::RecoveryEnded { tunnel: 22 }, b""),
+        27 => row(alloc, Move::Ignored { tunnel: 23 }, b""),
         _ => false,
     }
 }
 
 /// The first of the rows whose move has other lines.
 fn first_wrong(alloc: Global) -> Option<u64> {
-    for at in 0..20u8 {
+    for at in 0..28u8 {
         if !row_at(alloc, at) {
             return Some(u64::from(at));
         }
@@ -286,6 +384,34 @@ fn tick_is_told(alloc: Global) -> bool {
     )
 }
 
+/// A tunnel that was restored is recovered, and frozen again for its peer's own attempt, and what goes on beside that makes no line. A call
+/// ends in it meanwhile, without a cause; a cause that stands among the outputs is that of the tunnel that is closed behind it.
+fn recovery_is_told(alloc: Global) -> bool {
+    let moves = [
+        Move::RecoveryWentOn { tunnel: 19 },
+        reset_attempting(19),
+        Move::RecoveryEnded { tunnel: 19 },
+        froze(19),
+        silent(19, 26),
+        Move::Ignored { tunnel: 19 },
+        reset_answering(19),
+        forgot(24),
+        closed(25, true, 1, None),
+    ];
+    let outputs = [Out::Gone { session: 26 }, because(Cause::Operator)];
+    writes(
+        alloc,
+        &moves,
+        &outputs,
+        b"tunnel 19 recovered\n\
+        tunnel 19 frozen\n\
+        call 26 gone tunnel 19\n\
+        tunnel 19 recovered\n\
+        tunnel 24 lost\n\
+        tunnel 25 closed result 1 cause operator\n",
+    )
+}
+
 /// Datagrams of strangers: no line.
 fn strangers_are_passed_over(alloc: Global) -> bool {
     let moves = [declined(), declined(), accepted(14), read(14), refused(14)];
@@ -303,6 +429,7 @@ fn lines_of_steps(rt: HostRuntime) {
     let alloc = rt.alloc();
     none_is_wrong(&rt, first_wrong(alloc));
     assert!(rt; tick_is_told(alloc));
+    assert!(rt; recovery_is_told(alloc));
     assert!(rt; strangers_are_passed_over(alloc));
     assert!(rt; a_cause_is_passed_over(alloc));
 }

@@ -227,6 +227,7 @@ module _ (codecs : Codecs) (accs : Accounts) (n : ℕ) (e x : End) (sender : Opt
         acked = ((λ no. inl learns.acked), (λ yes. omega arith));
         calls = λ s k g. absurd (none-some k (sym (at-none s) ∙ g));
         order = ascends-empty [] refl;
+        recovery = refl;
       }
 
   near : IsNear b u o

@@ -184,6 +184,7 @@ module _ (codecs : Codecs) (classes : ClassIsTrue) (accs : Accounts) (n : ℕ) (
           acked = acked;
           calls = live.calls;
           order = live.order;
+          recovery = live.recovery;
         }
 
     near : IsNear a u k.o

@@ -13,18 +13,25 @@ use Rattle.world_model.specs.Run.{Run}
 use Rattle.step_laws.specs.Steps.{AreKept}
 use Rattle.connection_laws.specs.Accounts.{Part, Unmade, Opener, Acceptor, Taken, Account, heeded, account_of, partner_of}
 use Rattle.connection_laws.specs.Facts.{Accounts, AreTaken, IsLost, partner_in, IsOpener, IsAcceptor, IsPart, AccountOk, IsAnswered, AreAcked, EndOk, OriginOk, PacketOk, NodeOk, Holds}
-use Rattle.connection_laws.specs.Channels.{IsOtherEnd, IsLearned, HasLearned, IsCopied, LettersAreCarried, WasTaken, WasIgnored, WasDeclined, AcksAreTrue}
+use Rattle.connection_laws.specs.Channels.{IsOtherEnd, IsLearned, HasLearned, IsCopied, IsOfNoRecovery, LettersAreCarried, WasTaken, WasIgnored, WasDeclined, AcksAreTrue}
 use Rattle.connection_laws.proofs.Later.{live_made}
 use Rattle.connection_laws.proofs.States.{heeded_open, heeded_closed}
 use Rattle.connection_laws.proofs.Worlds.{all_map}
 
 -- ---- letters
 
+of_none : (accs : Accounts) (p : Packet) (o : Origin) → OriginOk accs p o → IsOfNoRecovery o
+of_none accs p (origin.Control o) ok = tt
+of_none accs p (origin.Data session) ok = tt
+of_none accs p (origin.Recovery tunnel number empty) ok = ok
+
 pub letters_carried : (r : Run) → Holds r.world (account_of r.done) → LettersAreCarried r
 letters_carried r holds = record {
   copies = all_map (PacketOk (account_of r.done)) (IsCopied r.done)
       (λ (p : Packet) h (o : ControlOrigin) (e : p.origin ≡ origin.Control o). subst (λ (q : Origin). OriginOk (account_of r.done) p q) e h.sent)
       r.world.packets holds.packets;
+  none_recovers = all_map (PacketOk (account_of r.done)) (λ (p : Packet). IsOfNoRecovery p.origin)
+      (λ (p : Packet) h. of_none (account_of r.done) p p.origin h.sent) r.world.packets holds.packets;
   taken = λ n i. (holds.accounts n i).taken;
 }
 

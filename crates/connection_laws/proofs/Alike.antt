@@ -1,10 +1,9 @@
 -- What a message that was sent is read as: it, but that a request may have another Calling Number, or none that can be had.
-use Rattle.std.proofs.Common.{◌≡◌, ℕ, List, [], refl, sym, ap, ◌∙◌, subst, Option, Some, None, Result, Ok, Err}
+use Rattle.std.proofs.Common.{◌≡◌, ℕ, List, refl, sym, ap, ◌∙◌, subst, Option, Some, None, Ok}
 use Rattle.control_message.specs.declared.message.Message.{Message}
 use Rattle.control_message.specs.declared.message.Message.TheVariants.{Sccrq, Sccrp, Scccn, StopCcn, Hello, Ocrq, Ocrp, Occn, Icrq, Icrp, Iccn, Cdn, Wen, Sli, Fsq, Fsr}
-use Rattle.control_message.specs.declared.message.Opening.{Opening}
 use Rattle.end_model.specs.declared.event.Addressee.TheVariants.{Opens, Stops}
-use Rattle.end_model.specs.Reading.{message_in, CallFault, call_fault_in, TunnelFault, tunnel_fault_in, at_zero}
+use Rattle.end_model.specs.Reading.{message_in, CallFault, call_fault_in, tunnel_fault_in, at_zero}
 use Rattle.step_laws.specs.Opens.{Assigns, opens_said}
 use Rattle.frame_laws.specs.Plain.{without_number, AreAlike, IsReadAs, AsAMessage, AsAFault, message_there, no_fault_there, no_tunnel_fault_there, number_fault, no_message_there, fault_there, for_its_call, for_no_tunnel}
 use Rattle.frame_laws.specs.Written.{IsWritten}
@@ -182,7 +181,7 @@ module _ (m : Message) (body : List ℕ) where
   pub read_opens : IsReadAs m body → (r : ℕ) → at_zero body ≡ Opens r → Assigns m r
   read_opens (AsAMessage avps y pairs reads written alike) r opens =
       let asks = opens_said body y r opens (message_there body avps y pairs reads) in
-      (asks.0, same_alike m y alike (subst IsNoRequest (sym asks.1) tt) ∙ asks.1, asks.2)
+      (asks.0, same_alike m y alike (subst IsNoRequest (sym asks.1) tt) ∙ asks.1, asks.2, asks.3)
   read_opens (AsAFault avps own serial number is small pairs fault kind told) r opens =
       let none = for_no_tunnel body avps own pairs fault kind told in
       absurd cc

@@ -1,19 +1,13 @@
 -- A control message that a live tunnel hears, whether it is the next one or not, is a letter of its sender's, and none has a fault.
-use Rattle.std.proofs.Common.{◌≡◌, ⊎_elim, ℕ, List, [], refl, sym, ap, ◌∙◌, subst, Option, Some, None, Result, Ok, Err}
+use Rattle.std.proofs.Common.{◌≡◌, ⊎_elim, ℕ, [], refl, sym, ap, ◌∙◌, subst, Option, Some, None}
 use Rattle.std.specs.Prelude.{length, slice_get}
 use Rattle.control_message.specs.declared.message.Message.{Message}
 use Rattle.control_message.specs.declared.message.Message.TheVariants.{Sccrq, Sccrp}
-use Rattle.control_message.specs.declared.message.MessageError.{MessageError}
-use Rattle.control_message.specs.declared.message.Read.{Read}
-use Rattle.control_message.specs.Reading.{message_of, kind_of_pairs, message_by, kind_by}
-use Rattle.avp_codec.specs.declared.avp.Avp.{Avp}
-use Rattle.avp_codec.specs.declared.error.AvpError.{AvpError}
-use Rattle.avp_codec.specs.Reading.{avps_of}
+use Rattle.control_message.specs.Reading.{message_by, kind_by}
 use Rattle.end_model.specs.declared.event.Event.{Event}
 use Rattle.end_model.specs.declared.out.ControlOrigin.{ControlOrigin}
-use Rattle.end_model.specs.declared.tunnel.Control.{Control}
 use Rattle.l2tp_header.specs.Reading.{body_of}
-use Rattle.end_model.specs.Reading.{message_in, pairs_read, message_read, call_fault_in, fault_of_pairs, tunnel_fault_in, tunnel_fault_of_pairs, tunnel_fault_read}
+use Rattle.end_model.specs.Reading.{call_fault_in, fault_of_pairs, tunnel_fault_in}
 use Rattle.end_model.specs.End.{End}
 use Rattle.world_model.specs.World.{Sender}
 use Rattle.step_laws.specs.Letters.{Letter}

@@ -137,11 +137,13 @@ module _ (accs : Accounts) (n : ℕ) (e : End) (sender : Option Sender) (moment 
     acked = ((λ unknown. inl refl), λ known. absurd (known refl));
     calls = λ s c f. absurd (none-some c (sym (at-none s) ∙ f));
     order = ascends-empty [] refl;
+    recovery = refl;
   }
 
   near_at : (p : Packet) (bytes : List ℕ) (o : Origin) → NearAt ms n i new p bytes o
   near_at p bytes (origin.Control o) = λ h peer read f. record { taken = rw is (omega arith); acked = omega arith }
   near_at p bytes (origin.Data session) = tt
+  near_at p bytes (origin.Recovery tunnel number empty) = tt
 
   near : (v : Event) (c : Comes accs n e sender v) → ComesNear accs n e sender v c ms i new
   near (Datagram peer bytes) c = near_at c.packet bytes c.packet.origin

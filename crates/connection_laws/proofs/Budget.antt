@@ -17,6 +17,7 @@ use Rattle.end_model.specs.End.{End}
 use Rattle.world_model.specs.World.{Sender, Deed}
 use Rattle.step_laws.specs.Moves.{Does}
 use Rattle.step_laws.specs.Ups.{reads_of_move}
+use Rattle.frame_laws.specs.Unrecovered.{IsMain}
 use Rattle.connection_laws.specs.Accounts.{Part, Unmade, Opener, Acceptor, Account, no_account, about, entered_by}
 use Rattle.connection_laws.specs.Facts.{Accounts, IsClosed, IsLost, partner_in, IsPart, AccountOk, LiveOk, EndOk, Within}
 use Rattle.connection_laws.proofs.Keeps.{after, HasNumbers, HasCounts}
@@ -95,67 +96,69 @@ none_below a most h = omega arith
 tunnels_are : (x y : End) → x ≡ y → x.tunnels ≡ y.tunnels
 tunnels_are x y h = ap (λ (e : End). e.tunnels) h
 
-pub does_below : (e x : End) (moment : ℕ) (ev : Event) (m : Move) (most : ℕ) → Ascends e.tunnels → FewOut e → AckedBelow e most → Does e moment ev m x
-    → AckedBelow x (most + 8192 * length (reads_of_move m))
-does_below e x moment ev (move.Opened m) most order few had h =
+pub does_below : (e x : End) (moment : ℕ) (ev : Event) (m : Move) → IsMain m → (most : ℕ) → Ascends e.tunnels → FewOut e
+    → AckedBelow e most → Does e moment ev m x → AckedBelow x (most + 8192 * length (reads_of_move m))
+does_below e x moment ev (move.Opened m) main most order few had h =
     put_below e x (most + 8192 * 0) m.tunnel _ (more_below e most (8192 * 0) had) (tunnels_are x _ h.after) (omega arith)
-does_below e x moment ev (move.Accepted m) most order few had h =
+does_below e x moment ev (move.Accepted m) main most order few had h =
     put_below e x (most + 8192 * 0) m.tunnel _ (more_below e most (8192 * 0) had) (tunnels_are x _ h.after)
     (none_below _ (most + 8192 * 0) (learns_acked m.window _))
-does_below e x moment ev (move.Connected m) most order few had h =
+does_below e x moment ev (move.Connected m) main most order few had h =
     old_below e x (most + 8192 * 0) m.tunnel h.tunnel _ (more_below e most (8192 * 0) had) h.there (tunnels_are x _ h.after) (learns_acked m.window _)
-does_below e x moment ev (move.Confirmed m) most order few had h =
+does_below e x moment ev (move.Confirmed m) main most order few had h =
     old_below e x (most + 8192 * 0) m.tunnel h.tunnel _ (more_below e most (8192 * 0) had) h.there (tunnels_are x _ h.after) refl
-does_below e x moment ev (move.Added m) most order few had h =
+does_below e x moment ev (move.Added m) main most order few had h =
     old_below e x (most + 8192 * 0) m.tunnel h.tunnel _ (more_below e most (8192 * 0) had) h.there (tunnels_are x _ h.after) refl
-does_below e x moment ev (move.Requested m) most order few had h =
+does_below e x moment ev (move.Requested m) main most order few had h =
     old_below e x (most + 8192 * 0) m.tunnel h.tunnel _ (more_below e most (8192 * 0) had) h.there (tunnels_are x _ h.after) refl
-does_below e x moment ev (move.Replied m) most order few had h =
+does_below e x moment ev (move.Replied m) main most order few had h =
     old_below e x (most + 8192 * 0) m.tunnel h.tunnel _ (more_below e most (8192 * 0) had) h.there (tunnels_are x _ h.after) refl
-does_below e x moment ev (move.FirstUp m) most order few had h =
+does_below e x moment ev (move.FirstUp m) main most order few had h =
     old_below e x (most + 8192 * 0) m.tunnel h.tunnel _ (more_below e most (8192 * 0) had) h.there (tunnels_are x _ h.after) refl
-does_below e x moment ev (move.SecondUp m) most order few had h =
+does_below e x moment ev (move.SecondUp m) main most order few had h =
     old_below e x (most + 8192 * 0) m.tunnel h.tunnel _ (more_below e most (8192 * 0) had) h.there (tunnels_are x _ h.after) refl
-does_below e x moment ev (move.Refused m) most order few had h =
+does_below e x moment ev (move.Refused m) main most order few had h =
     old_below e x (most + 8192 * 0) m.tunnel h.tunnel _ (more_below e most (8192 * 0) had) h.there (tunnels_are x _ h.after) refl
-does_below e x moment ev (move.EndTold m) most order few had h =
+does_below e x moment ev (move.EndTold m) main most order few had h =
     old_below e x (most + 8192 * 0) m.tunnel h.tunnel _ (more_below e most (8192 * 0) had) h.there (tunnels_are x _ h.after) refl
-does_below e x moment ev (move.EndHeard m) most order few had h =
+does_below e x moment ev (move.EndHeard m) main most order few had h =
     old_below e x (most + 8192 * 0) m.tunnel h.tunnel _ (more_below e most (8192 * 0) had) h.there (tunnels_are x _ h.after) refl
-does_below e x moment ev (move.EndSilent m) most order few had h =
+does_below e x moment ev (move.EndSilent m) main most order few had h =
     old_below e x (most + 8192 * 0) m.tunnel h.tunnel _ (more_below e most (8192 * 0) had) h.there (tunnels_are x _ h.after) refl
-does_below e x moment ev (move.Declined m) most order few had h =
+does_below e x moment ev (move.Declined m) main most order few had h =
     same_below e x (most + 8192 * 0) (more_below e most (8192 * 0) had) (tunnels_are x _ h.after)
-does_below e x moment ev (move.Rejected m) most order few had h =
+does_below e x moment ev (move.Rejected m) main most order few had h =
     old_below e x (most + 8192 * 0) m.tunnel h.tunnel _ (more_below e most (8192 * 0) had) h.there (tunnels_are x _ h.after) refl
-does_below e x moment ev (move.Closed m) most order few had h =
+does_below e x moment ev (move.Closed m) main most order few had h =
     old_below e x (most + 8192 * 0) m.tunnel h.tunnel _ (more_below e most (8192 * 0) had) h.there (tunnels_are x _ h.after) refl
-does_below e x moment ev (move.ClosedBy m) most order few had h =
+does_below e x moment ev (move.ClosedBy m) main most order few had h =
     old_below e x (most + 8192 * 0) m.tunnel h.tunnel _ (more_below e most (8192 * 0) had) h.there (tunnels_are x _ h.after) refl
-does_below e x moment ev (move.Cleared k booked) most order few had h =
+does_below e x moment ev (move.Cleared k booked) main most order few had h =
     λ i t there. more_below e most (8192 * 0) had i t (found_without e.tunnels k i t order (let g = rw (tunnels_are x _ h.after) at there in g)).1
-does_below e x moment ev (move.Greeted m) most order few had h =
+does_below e x moment ev (move.Greeted m) main most order few had h =
     old_below e x (most + 8192 * 0) m.tunnel h.tunnel _ (more_below e most (8192 * 0) had) h.there (tunnels_are x _ h.after) refl
-does_below e x moment ev (move.TookPlain m) most order few had h =
+does_below e x moment ev (move.TookPlain m) main most order few had h =
     old_below e x (most + 8192 * 0) m.tunnel h.tunnel _ (more_below e most (8192 * 0) had) h.there (tunnels_are x _ h.after) refl
-does_below e x moment ev (move.NrRead m) most order few had h =
+does_below e x moment ev (move.NrRead m) main most order few had h =
     put_below e x (most + 8192 * 1) m.tunnel _ (more_below e most (8192 * 1) had) (tunnels_are x _ h.after)
     (let le = acked_few h.tunnel.control.channel m.nr moment most (had m.tunnel h.tunnel h.there) (few m.tunnel h.tunnel h.there) in omega arith)
-does_below e x moment ev (move.LetGo m) most order few had h =
+does_below e x moment ev (move.LetGo m) main most order few had h =
     old_below e x (most + 8192 * 0) m.tunnel h.tunnel _ (more_below e most (8192 * 0) had) h.there (tunnels_are x _ h.after)
     (goes_acked h.tunnel.control.channel moment)
-does_below e x moment ev (move.Repeated m) most order few had h =
+does_below e x moment ev (move.Repeated m) main most order few had h =
     old_below e x (most + 8192 * 0) m.tunnel h.tunnel _ (more_below e most (8192 * 0) had) h.there (tunnels_are x _ h.after)
     (ticked_acked h.tunnel.control.channel moment)
-does_below e x moment ev (move.Quiet k) most order few had h = same_below e x (most + 8192 * 0) (more_below e most (8192 * 0) had) (tunnels_are x _ h.after)
-does_below e x moment ev (move.Negotiated m) most order few had h =
-    old_below e x (most + 8192 * 0) m.tunnel h.tunnel _ (more_below e most (8192 * 0) had) h.there (tunnels_are x _ h.after) refl
-does_below e x moment ev (move.Counted m) most order few had h =
-    old_below e x (most + 8192 * 0) m.tunnel h.tunnel _ (more_below e most (8192 * 0) had) h.there (tunnels_are x _ h.after) refl
-does_below e x moment ev (move.FrameSent m) most order few had h =
+does_below e x moment ev (move.Quiet k) main most order few had h =
     same_below e x (most + 8192 * 0) (more_below e most (8192 * 0) had) (tunnels_are x _ h.after)
-does_below e x moment ev (move.FrameUp m) most order few had h =
+does_below e x moment ev (move.Negotiated m) main most order few had h =
+    old_below e x (most + 8192 * 0) m.tunnel h.tunnel _ (more_below e most (8192 * 0) had) h.there (tunnels_are x _ h.after) refl
+does_below e x moment ev (move.Counted m) main most order few had h =
+    old_below e x (most + 8192 * 0) m.tunnel h.tunnel _ (more_below e most (8192 * 0) had) h.there (tunnels_are x _ h.after) refl
+does_below e x moment ev (move.FrameSent m) main most order few had h =
     same_below e x (most + 8192 * 0) (more_below e most (8192 * 0) had) (tunnels_are x _ h.after)
+does_below e x moment ev (move.FrameUp m) main most order few had h =
+    same_below e x (most + 8192 * 0) (more_below e most (8192 * 0) had) (tunnels_are x _ h.after)
+does_below e x moment ev m main most order few had h = absurd main
 
 -- ---- the letters that are given and taken
 
@@ -167,36 +170,37 @@ put_live : (e x : End) (k : ℕ) (u : Tunnel) → x.tunnels ≡ put e.tunnels k 
 put_live e x k u puts = record { tunnel = u; there = rw puts (at_new e.tunnels k u) }
 
 -- letters are given only to a tunnel that is live then
-does_give : (e x : End) (moment : ℕ) (ev : Event) (m : Move) (d : Deed) (a : Account) → Does e moment ev m x
+does_give : (e x : End) (moment : ℕ) (ev : Event) (m : Move) → IsMain m → (d : Deed) (a : Account) → Does e moment ev m x
     → ((entered_by d m a).given ≡ a.given) ⊎ IsLive x (about m)
-does_give e x moment ev (move.Opened m) d a h = inr (put_live e x m.tunnel _ (tunnels_are x _ h.after))
-does_give e x moment ev (move.Accepted m) d a h = inr (put_live e x m.tunnel _ (tunnels_are x _ h.after))
-does_give e x moment ev (move.Connected m) d a h = inr (put_live e x m.tunnel _ (tunnels_are x _ h.after))
-does_give e x moment ev (move.Confirmed m) d a h = inl refl
-does_give e x moment ev (move.Added m) d a h = inl refl
-does_give e x moment ev (move.Requested m) d a h = inr (put_live e x m.tunnel _ (tunnels_are x _ h.after))
-does_give e x moment ev (move.Replied m) d a h = inr (put_live e x m.tunnel _ (tunnels_are x _ h.after))
-does_give e x moment ev (move.FirstUp m) d a h = inr (put_live e x m.tunnel _ (tunnels_are x _ h.after))
-does_give e x moment ev (move.SecondUp m) d a h = inl refl
-does_give e x moment ev (move.Refused m) d a h = inr (put_live e x m.tunnel _ (tunnels_are x _ h.after))
-does_give e x moment ev (move.EndTold m) d a h = inr (put_live e x m.tunnel _ (tunnels_are x _ h.after))
-does_give e x moment ev (move.EndHeard m) d a h = inl refl
-does_give e x moment ev (move.EndSilent m) d a h = inl refl
-does_give e x moment ev (move.Declined m) d a h = inl refl
-does_give e x moment ev (move.Rejected m) d a h = inr (put_live e x m.tunnel _ (tunnels_are x _ h.after))
-does_give e x moment ev (move.Closed m) d a h = inr (put_live e x m.tunnel _ (tunnels_are x _ h.after))
-does_give e x moment ev (move.ClosedBy m) d a h = inl refl
-does_give e x moment ev (move.Cleared k booked) d a h = inl refl
-does_give e x moment ev (move.Greeted m) d a h = inr (put_live e x m.tunnel _ (tunnels_are x _ h.after))
-does_give e x moment ev (move.TookPlain m) d a h = inl refl
-does_give e x moment ev (move.NrRead m) d a h = inl refl
-does_give e x moment ev (move.LetGo m) d a h = inl refl
-does_give e x moment ev (move.Repeated m) d a h = inl refl
-does_give e x moment ev (move.Quiet k) d a h = inl refl
-does_give e x moment ev (move.Negotiated m) d a h = inl refl
-does_give e x moment ev (move.Counted m) d a h = inl refl
-does_give e x moment ev (move.FrameSent m) d a h = inl refl
-does_give e x moment ev (move.FrameUp m) d a h = inl refl
+does_give e x moment ev (move.Opened m) main d a h = inr (put_live e x m.tunnel _ (tunnels_are x _ h.after))
+does_give e x moment ev (move.Accepted m) main d a h = inr (put_live e x m.tunnel _ (tunnels_are x _ h.after))
+does_give e x moment ev (move.Connected m) main d a h = inr (put_live e x m.tunnel _ (tunnels_are x _ h.after))
+does_give e x moment ev (move.Confirmed m) main d a h = inl refl
+does_give e x moment ev (move.Added m) main d a h = inl refl
+does_give e x moment ev (move.Requested m) main d a h = inr (put_live e x m.tunnel _ (tunnels_are x _ h.after))
+does_give e x moment ev (move.Replied m) main d a h = inr (put_live e x m.tunnel _ (tunnels_are x _ h.after))
+does_give e x moment ev (move.FirstUp m) main d a h = inr (put_live e x m.tunnel _ (tunnels_are x _ h.after))
+does_give e x moment ev (move.SecondUp m) main d a h = inl refl
+does_give e x moment ev (move.Refused m) main d a h = inr (put_live e x m.tunnel _ (tunnels_are x _ h.after))
+does_give e x moment ev (move.EndTold m) main d a h = inr (put_live e x m.tunnel _ (tunnels_are x _ h.after))
+does_give e x moment ev (move.EndHeard m) main d a h = inl refl
+does_give e x moment ev (move.EndSilent m) main d a h = inl refl
+does_give e x moment ev (move.Declined m) main d a h = inl refl
+does_give e x moment ev (move.Rejected m) main d a h = inr (put_live e x m.tunnel _ (tunnels_are x _ h.after))
+does_give e x moment ev (move.Closed m) main d a h = inr (put_live e x m.tunnel _ (tunnels_are x _ h.after))
+does_give e x moment ev (move.ClosedBy m) main d a h = inl refl
+does_give e x moment ev (move.Cleared k booked) main d a h = inl refl
+does_give e x moment ev (move.Greeted m) main d a h = inr (put_live e x m.tunnel _ (tunnels_are x _ h.after))
+does_give e x moment ev (move.TookPlain m) main d a h = inl refl
+does_give e x moment ev (move.NrRead m) main d a h = inl refl
+does_give e x moment ev (move.LetGo m) main d a h = inl refl
+does_give e x moment ev (move.Repeated m) main d a h = inl refl
+does_give e x moment ev (move.Quiet k) main d a h = inl refl
+does_give e x moment ev (move.Negotiated m) main d a h = inl refl
+does_give e x moment ev (move.Counted m) main d a h = inl refl
+does_give e x moment ev (move.FrameSent m) main d a h = inl refl
+does_give e x moment ev (move.FrameUp m) main d a h = inl refl
+does_give e x moment ev m main d a h = absurd main
 
 -- all letters of a live tunnel are acknowledged or queued
 live_below : (accs : Accounts) (n i : ℕ) (x : End) (top most : ℕ) (t : Tunnel) → LiveOk accs n i (accs n i) t → at x.tunnels i ≡ Some t → AckedBelow x top
@@ -204,17 +208,17 @@ live_below : (accs : Accounts) (n i : ℕ) (x : End) (top most : ℕ) (t : Tunne
 live_below accs n i x top most t live there below room =
     let le = below i t there in let sum = live.counted in let few = live.few in omega arith
 
-pub given_after : (accs : Accounts) (n : ℕ) (e x : End) (sender : Option Sender) (moment : ℕ) (ev : Event) (m : Move) (d : Deed) (top most : ℕ)
-    → DeclinesNone m → d.node ≡ n → d.move ≡ m → Does e moment ev m x → Within (after accs d) n x sender ev → AckedBelow x top → top + 8192 ≤ most
+pub given_after : (accs : Accounts) (n : ℕ) (e x : End) (sender : Option Sender) (moment : ℕ) (ev : Event) (m : Move) → IsMain m
+    → (d : Deed) (top most : ℕ) → DeclinesNone m → d.node ≡ n → d.move ≡ m → Does e moment ev m x → Within (after accs d) n x sender ev → AckedBelow x top → top + 8192 ≤ most
     → GivenBelow accs most
     → GivenBelow (after accs d) most
-given_after accs n e x sender moment ev m d top most none node is does within below room had k j = ⊎_elim
+given_after accs n e x sender moment ev m main d top most none node is does within below room had k j = ⊎_elim
     (λ (p : (k ≡ n) × (j ≡ about m)).
     rw (p.0, p.1) (⊎_elim
     (λ (same : (entered_by d m (accs n (about m))).given ≡ (accs n (about m)).given).
     subst (λ (b : Account). length b.given ≤ most) (sym (after_move accs d n m none node is)) (rw same (had n (about m))))
     (λ (l : IsLive x (about m)). live_below (after accs d) n (about m) x top most l.tunnel (within.end.live (about m) l.tunnel l.there) l.there below room)
-    (does_give e x moment ev m d (accs n (about m)) does)))
+    (does_give e x moment ev m main d (accs n (about m)) does)))
     (λ no. rw (after_there accs d k j (subst DeclinesNone (sym is) none) (λ both. no (both.0 ∙ node, both.1 ∙ ap about is))) (had k j))
     (here_or_not k n j (about m))
 

@@ -310,6 +310,7 @@ module _ (codecs : Codecs) (accs : Accounts) (n : ℕ) (e x : End) (sender : Opt
             (are_acked_later accs ms grown n i some a t.control.channel.window.acked a.part live.acked);
         calls = λ s k f. absurd (none-some k (sym (at-none s) ∙ f));
         order = ascends-empty [] refl;
+        recovery = live.recovery;
       }
 
   near_at : (w : Packet) (bytes : List ℕ) (o : Origin) → AreNear accs n e w bytes o → NearAt ms n i u w bytes o
@@ -317,6 +318,7 @@ module _ (codecs : Codecs) (accs : Accounts) (n : ℕ) (e x : End) (sender : Opt
       let k = before i t v h.does.there peer read (for_back v bytes t.control u.control refl (known ∙ sym live.remote) f) in
       record { taken = rw is k.taken; acked = k.acked }
   near_at w bytes (origin.Data session) before = tt
+  near_at w bytes (origin.Recovery tunnel number empty) before = tt
 
   near : (v : Event) (c : Comes accs n e sender v) → ComesNear accs n e sender v c ms i u
   near (Datagram peer bytes) c = near_at c.packet bytes c.packet.origin c.near

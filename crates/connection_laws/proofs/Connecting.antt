@@ -338,6 +338,7 @@ module _ (codecs : Codecs) (classes : ClassIsTrue) (accs : Accounts) (n : ℕ) (
             ((λ z. absurd (known z)), (λ z. rw stays (omega (arith, few_acked, one_taken))));
         calls = live.calls;
         order = live.order;
+        recovery = live.recovery;
       }
 
   near : IsNear b u o

@@ -1,6 +1,6 @@
 -- An opening is declined: it is the SCCRQ of a tunnel of the sender's, and no end changes.
 use Rattle.std.proofs.Common.{◌≡◌, inr, ⊎_elim, ℕ, ◌+◌, ◌<◌, Bool, true, false, cond, List, [], refl, sym, ap, ap₂, ◌∙◌, subst, Option, Result, Ok, Err, arith}
-use Rattle.std.specs.Prelude.{◌==◌}
+use Rattle.std.specs.Prelude.{◌==◌, is_some}
 use Rattle.avp_codec.specs.declared.avp.Avp.{Avp}
 use Rattle.avp_codec.specs.declared.error.AvpError.{AvpError}
 use Rattle.avp_codec.specs.Reading.{avps_at, avps_of}
@@ -14,9 +14,9 @@ use Rattle.control_message.specs.declared.message.Opening.{Opening}
 use Rattle.control_message.specs.declared.message.Read.{Read}
 use Rattle.control_message.specs.declared.message.Read.TheVariants.{Known, Ignored}
 use Rattle.control_message.specs.Pairs.{pairs_of}
-use Rattle.control_message.specs.Reading.{message_of, kind_of_pairs, message_by, kind_by}
+use Rattle.control_message.specs.Reading.{message_of, message_by, kind_by}
 use Rattle.recv_window.specs.Window.{on_wire}
-use Rattle.end_model.specs.declared.event.Addressee.TheVariants.{Stops, Answers, Nobody}
+use Rattle.end_model.specs.declared.event.Addressee.TheVariants.{Opens, Recovers, Stops, Answers, Nobody}
 use Rattle.end_model.specs.declared.event.Event.{Event}
 use Rattle.end_model.specs.declared.moves.Declined.{Declined}
 use Rattle.end_model.specs.declared.moves.Move.TheVariants as move
@@ -26,7 +26,7 @@ use Rattle.l2tp_header.specs.Reading.{body_of}
 use Rattle.end_model.specs.Reading.{message_in, pairs_read, message_read, at_zero, zero_pairs, zero_read}
 use Rattle.end_model.specs.End.{End, decline_origin}
 use Rattle.world_model.specs.World.{Sender, Deed, packet_from}
-use Rattle.step_laws.specs.Moves.{WhyDeclined, AnOpening, AFaultyOpening, AnAnswer, Declines}
+use Rattle.step_laws.specs.Moves.{WhyDeclined, AnOpening, ARecovery, AFaultyOpening, AnAnswer, Declines}
 use Rattle.step_laws.specs.Opens.{empty_opens_none}
 use Rattle.frame_laws.specs.Codecs.{Codecs}
 use Rattle.frame_laws.specs.Plain.{IsReadAs, AsAMessage, AsAFault, message_there, for_no_tunnel}
@@ -53,7 +53,11 @@ known_answers avps (StopCcn tunnel code error) r h = by (tunnel == 0) h
     by : (b : Bool) → cond b (Nobody why.Tunnel) (Stops tunnel) ≡ Answers r → IsReply (StopCcn tunnel code error)
     by true is = absurd cc
     by false is = absurd cc
-known_answers avps (Sccrq o) r h = absurd cc
+known_answers avps (Sccrq o) r h = by (is_some o.recovery) h
+  where
+    by : (b : Bool) → cond b (Recovers o.tunnel) (Opens o.tunnel) ≡ Answers r → IsReply (Sccrq o)
+    by true is = absurd cc
+    by false is = absurd cc
 known_answers avps (Scccn response) r h = absurd cc
 known_answers avps Hello r h = absurd cc
 known_answers avps (Ocrq session) r h = absurd cc
@@ -139,7 +143,8 @@ module _ (codecs : Codecs) (accs : Accounts) (n : ℕ) (e x : End) (sender : Opt
         let no : ⊥ = cc in no
 
     by_why : WhyDeclined e body m → IsOpening accs n m
-    by_why (AnOpening o said told unknown against) = by_opening o said told
+    by_why (AnOpening o said plain told unknown against) = by_opening o said told
+    by_why (ARecovery o said r asks told against) = by_opening o said told
     by_why (AFaultyOpening g to unknown is on result error) = absurd (⊎_elim
         (λ (q : IsLetterRead b f.o d.header d.bytes).
         let none = read_sound q.letter.message body q.reads in
@@ -178,14 +183,15 @@ declined_keeps codecs accs n e x sender moment ev d m h =
 
 pub declined_ok : (ms : Accounts) (n : ℕ) → n < 256 → (m : Declined) → WasOpening ms n m → (peer : ℕ) (bytes : List ℕ) (o : Origin) → peer ≡ m.peer
     → bytes ≡ control_bytes m.remote 0 0 m.nr (spelling (pairs_of (StopCcn 0 m.result m.error))) → o ≡ decline_origin m.nr
-    → PacketOk ms (packet_from n (node_of peer) bytes o)
+    → PacketOk ms (packet_from n (node_of peer) bytes o 0)
 declined_ok ms n lt m was peer bytes o peer_is are is =
     let opener = was.opener in
     let goes = was.peer in
     let told = was.declined in
     record {
       from = lt;
-      sent = subst (λ (q : Origin). OriginOk ms (packet_from n (node_of peer) bytes o) q) (sym is) (inr (record {
+      epoch = refl;
+      sent = subst (λ (q : Origin). OriginOk ms (packet_from n (node_of peer) bytes o 0) q) (sym is) (inr (record {
         none = refl;
         ns = refl;
         nr = was.nr;

@@ -107,6 +107,7 @@ module _ (accs : Accounts) (n : ℕ) (e : End) (sender : Option Sender) (ev : Ev
         taken = refl;
         calls = h.remotes;
         order = h.order;
+        recovery = refl;
         how = inl h.open_is;
       }
 
@@ -243,6 +244,7 @@ record Stays (t u : Tunnel) : Type 0 where
   taken : u.control.channel.inbox.taken ≡ t.control.channel.inbox.taken
   calls : (s : ℕ) (c : Call) → at u.calls s ≡ Some c → c.remote < 65536
   order : Ascends u.calls
+  recovery : u.recovery ≡ t.recovery
   how : (state_number t.control.state ≡ 3)
       ⊎ ((AllWait t.calls → AllWait u.calls) × ((state_number t.control.state ≡ 1 → ⊥) → t.calls ≡ [] → u.calls ≡ []))
 
@@ -269,6 +271,7 @@ stays_keeps accs n e x sender ev within i t u there s put_is =
       taken = s.taken;
       calls = s.calls;
       order = s.order;
+      recovery = s.recovery;
       how = ⊎_elim (λ three. inl three) (λ k. inr (refl, k.0, k.1)) s.how;
     })
     (only_same accs n i)
@@ -325,6 +328,7 @@ calls_stay t calls out fits order how = record {
   taken = refl;
   calls = fits;
   order = order;
+  recovery = refl;
   how = how;
 }
 
@@ -458,6 +462,7 @@ window_stays accs n i a t c live h = record {
   taken = h.taken;
   calls = live.calls;
   order = live.order;
+  recovery = refl;
   how = inr ((λ wait. wait), (λ one none. none));
 }
 

@@ -50,6 +50,7 @@ pub record GoesOn (t u : Tunnel) (more : List Letter) : Type 0 where
   pub taken : u.control.channel.inbox.taken ≡ t.control.channel.inbox.taken
   pub calls : (s : ℕ) (c : Call) → at u.calls s ≡ Some c → c.remote < 65536
   pub order : Ascends u.calls
+  pub recovery : u.recovery ≡ t.recovery
   -- one that isn't open is given nothing; its calls wait, or it has none
   pub how : (state_number t.control.state ≡ 3)
       ⊎ ((more ≡ []) × (AllWait t.calls → AllWait u.calls) × ((state_number t.control.state ≡ 1 → ⊥) → t.calls ≡ [] → u.calls ≡ []))
@@ -321,6 +322,7 @@ module _ (accs ms : Accounts) (n : ℕ) (e x : End) (sender : Option Sender) (ev
     acked = rw g.acked (are_acked_on ms n i a b acked refl refl (λ z. z) a.part (are_acked_later accs ms grown n i some a acked a.part live.acked));
     calls = g.calls;
     order = g.order;
+    recovery = g.recovery ∙ live.recovery;
   }
     where
       acked : ℕ
@@ -342,6 +344,7 @@ module _ (accs ms : Accounts) (n : ℕ) (e x : End) (sender : Option Sender) (ev
       let k = before i t h there (sym g.peer ∙ peer) read (for_back h bytes t.control u.control g.local g.remote f) in
       record { taken = rw is k.taken; acked = rw g.acked k.acked }
   near_at w bytes (origin.Data session) before = tt
+  near_at w bytes (origin.Recovery tunnel number empty) before = tt
 
   near : (v : Event) (c : Comes accs n e sender v) → ComesNear accs n e sender v c ms i u
   near (Datagram peer bytes) c = near_at c.packet bytes c.packet.origin c.near

@@ -8,12 +8,10 @@ use Rattle.l2tp_header.specs.declared.header.Header.{Header}
 use Rattle.l2tp_header.specs.Again.{control_header}
 use Rattle.l2tp_header.specs.Spelling.{control_bytes, data_bytes}
 use Rattle.l2tp_header.specs.Reading.{header_of, body_of}
-use Rattle.avp_codec.specs.Spelling.{spelling}
 use Rattle.control_message.specs.declared.message.Message.{Message}
 use Rattle.control_message.specs.declared.message.Message.TheVariants.{Sccrq, Sccrp, StopCcn}
 use Rattle.control_message.specs.declared.message.Opening.{Opening}
-use Rattle.control_message.specs.Pairs.{pairs_of}
-use Rattle.control_message.specs.Reading.{message_of, message_by}
+use Rattle.control_message.specs.Reading.{message_by}
 use Rattle.recv_window.specs.Window.{on_wire}
 use Rattle.end_model.specs.declared.event.Event.{Event}
 use Rattle.end_model.specs.declared.event.Event.TheVariants.{Datagram, Ring, Frame, Admitted, Payload, Lower, Lcp, Hang, OpenTunnel, DropCall, CloseTunnel, Tick}
@@ -33,7 +31,6 @@ use Rattle.step_laws.specs.Opens.{empty_opens_none}
 use Rattle.end_model.specs.Secrets.{uncovered_datagram}
 use Rattle.frame_laws.specs.Codecs.{Codecs}
 use Rattle.frame_laws.specs.Plain.{IsReadAs}
-use Rattle.frame_laws.specs.Written.{IsWritten}
 use Rattle.connection_laws.specs.Accounts.{Part, Unmade, Opener, Acceptor, Account}
 use Rattle.connection_laws.specs.Facts.{Accounts, IsMade, IsSpelled, IsNoOpening, IsNoStop, IsStopCcn, TellsOwn, IsLost, BeginsWith, IsPart, IsOpener, IsAcceptor, partner_in, AccountOk, LiveOk, Says, ALetter, Nothing, IsCopy, IsRefusal, IsData, OriginOk, IsNear, AreNear, IsPacket, Comes, Within}
 use Rattle.connection_laws.proofs.Later.{live_made}
@@ -403,6 +400,7 @@ module _ (codecs : Codecs) where
       → h.control ≡ true → (g : Origin) → p.origin ≡ g → OriginOk accs p g → IsControl accs p
   control_of accs p secret h read control (origin.Control o) is ok = record { o = o; is = is; sent = ok }
   control_of accs p secret h read control (origin.Data session) is ok = absurd (data_read codecs secret p.bytes h ok read control)
+  control_of accs p secret h read control (origin.Recovery tunnel number empty) is ok = absurd ok
 
   pub from_peer : (accs : Accounts) (n : ℕ) (e : End) (sender : Option Sender) (ev : Event) (within : Within accs n e sender ev) (peer : ℕ) (h : Header)
       (bytes : List ℕ) → ev ≡ Datagram peer bytes → header_of bytes ≡ Ok h → h.control ≡ true

@@ -56,6 +56,7 @@ pub record IgnoresOn (t u : Tunnel) : Type 0 where
   pub queued : u.control.channel.window.queued ≡ t.control.channel.window.queued
   pub outstanding : u.control.channel.window.outstanding ≡ t.control.channel.window.outstanding
   pub taken : u.control.channel.inbox.taken ≡ t.control.channel.inbox.taken + 1
+  pub recovery : u.recovery ≡ t.recovery
 
 -- of whom the letter is: of the tunnel's partner, the next one of its list; of another tunnel or of none, where an opener has taken one
 -- letter at most; or of an opener that is lost, where its acceptor has taken one at most
@@ -383,6 +384,7 @@ module _ (accs ms : Accounts) (n : ℕ) (e x : End) (sender : Option Sender) (ev
         acked = acked;
         calls = λ s c f. absurd (no_call u.calls s c f k.goes.none);
         order = ascends-empty u.calls k.goes.none;
+        recovery = k.goes.recovery ∙ live.recovery;
       }
 
   near : IsNear b u k.due.o

@@ -316,6 +316,7 @@ module _ (accs ms : Accounts) (grown : AllExtend accs ms) (n i : ℕ) (some : 0 
     acked = are_acked_later a t.control.channel.window.acked a.part h.acked;
     calls = h.calls;
     order = h.order;
+    recovery = h.recovery;
   }
 
 -- ---- packets
@@ -360,7 +361,7 @@ refusal_later accs ms g p o h =
     }
 
 pub packet_later : (accs ms : Accounts) → AllExtend accs ms → (p : Packet) → PacketOk accs p → PacketOk ms p
-packet_later accs ms g p h = record { from = h.from; sent = by p.origin h.sent }
+packet_later accs ms g p h = record { from = h.from; epoch = h.epoch; sent = by p.origin h.sent }
   where
     by : (o : Origin) → OriginOk accs p o → OriginOk ms p o
     by (origin.Control o) k = ⊎_elim
@@ -368,6 +369,7 @@ packet_later accs ms g p h = record { from = h.from; sent = by p.origin h.sent }
         (λ (r : IsRefusal accs p o). inr (refusal_later accs ms g p o r))
         k
     by (origin.Data session) k = k
+    by (origin.Recovery tunnel number empty) k = k
 
 -- ---- the accounts after a deed
 
@@ -405,6 +407,7 @@ declines_none (move.Negotiated m) plain n i = refl
 declines_none (move.Counted m) plain n i = refl
 declines_none (move.FrameSent m) plain n i = refl
 declines_none (move.FrameUp m) plain n i = refl
+declines_none m plain n i = refl
 
 pub after_here : (accs : Accounts) (d : Deed) (n i : ℕ) → DeclinesNone d.move → d.node ≡ n → about d.move ≡ i
     → after accs d n i ≡ entered d (accs n i)
@@ -537,6 +540,7 @@ entered_extends d (move.Negotiated m) a h = extends_same a
 entered_extends d (move.Counted m) a h = extends_same a
 entered_extends d (move.FrameSent m) a h = extends_same a
 entered_extends d (move.FrameUp m) a h = extends_same a
+entered_extends d m a h = extends_same a
 
 -- a move of a node enters one of its tunnels alone
 pub after_move : (accs : Accounts) (d : Deed) (n : ℕ) (m : Move) → DeclinesNone m → d.node ≡ n → d.move ≡ m

@@ -1,20 +1,21 @@
 -- What holds over every list of lines.
 use Rattle.recv_window.specs.Window.{ClassIsTrue}
 use Rattle.world_model.specs.Run.{run}
-use Rattle.step_laws.specs.Steps.{StepsAreChains}
+use Rattle.step_laws.specs.Steps.{StepsAreChains, StepsAreNoStarts}
 use Rattle.step_laws.specs.Ups.{ReadsAreFew}
 use Rattle.frame_laws.specs.Codecs.{Codecs}
 use Rattle.connection_laws.specs.Channels.{HoldsInRuns, LettersOfRuns, AcksOfRuns, NumbersOfRuns}
 use Rattle.connection_laws.proofs.Moves.{moves_keep}
 use Rattle.connection_laws.proofs.Closing.{closings_are_known}
 use Rattle.connection_laws.proofs.Declining.{declines_are_of_openings}
+use Rattle.connection_laws.proofs.AnyHeard.{openings_are_acceptable}
 use Rattle.connection_laws.proofs.Worlds.{Laws}
 use Rattle.connection_laws.proofs.Runs.{holds_in_runs, lines_go_on}
 use Rattle.connection_laws.specs.Steps.{LinesGoOn}
 use Rattle.connection_laws.proofs.Acks.{letters_carried, acks_true}
 use Rattle.connection_laws.proofs.Readings.{numbers_read}
 
-module _ (codecs : Codecs) (chains : StepsAreChains) (reads : ReadsAreFew) (classes : ClassIsTrue) where
+module _ (codecs : Codecs) (chains : StepsAreChains) (starts : StepsAreNoStarts) (reads : ReadsAreFew) (classes : ClassIsTrue) where
   laws : Laws
   laws = record {
     moves = moves_keep codecs classes;
@@ -22,6 +23,8 @@ module _ (codecs : Codecs) (chains : StepsAreChains) (reads : ReadsAreFew) (clas
     reads = reads;
     closings = closings_are_known codecs;
     declines = declines_are_of_openings codecs;
+    acceptable = openings_are_acceptable codecs;
+    starts = starts;
   }
 
   pub facts_of_runs : HoldsInRuns

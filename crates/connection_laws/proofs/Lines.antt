@@ -22,7 +22,7 @@ use Rattle.end_names.specs.Names.{address_of}
 use Rattle.end_model.specs.End.{End, plain_step, new_end}
 use Rattle.step_laws.specs.Lines.{tested_not, is_lac_at, is_lns_at, is_declared, has_call, has_tunnel, none_there, IsAt, at_moment, is_at, is_later, deliver_line, OfLoad, load_line, IsHeldAt, OfHand, hand_line}
 use Rattle.world_model.specs.declared.held.Held.{Held}
-use Rattle.world_model.specs.World.{World, Node, Checkpoint, Sender, Deed, Lined, birth_of, held_line, taken_up, hand_deed, behind_hand, quiet_line, with_node, after_step, declared, lac_at, lns_at, with_call, with_tunnel, later, config_of, new_node, answer_entries, added, block_of, given, stepped, sender_of, delivers, line}
+use Rattle.world_model.specs.World.{World, Node, Checkpoint, Sender, Deed, Lined, standing_of, birth_of, held_line, taken_up, hand_deed, behind_hand, quiet_line, with_node, after_step, declared, lac_at, lns_at, with_call, with_tunnel, later, config_of, new_node, answer_entries, added, block_of, given, stepped, sender_of, delivers, line}
 use Rattle.step_laws.specs.Steps.{AreKept}
 use Rattle.frame_laws.specs.Codecs.{Codecs}
 use Rattle.end_model.specs.Access.{Access}
@@ -36,7 +36,7 @@ use Rattle.connection_laws.proofs.Steps.{afterwards}
 use Rattle.connection_laws.proofs.Starts.{is_packet}
 use Rattle.connection_laws.proofs.Budget.{GivenBelow}
 use Rattle.connection_laws.specs.Steps.{LineDoes, Nothing, ANode, AStep, LineHands, ByItself, BehindHand}
-use Rattle.connection_laws.proofs.Worlds.{births_same, added_births, Goes, Laws, step_ok, step_does}
+use Rattle.connection_laws.proofs.Worlds.{births_same, added_births, added_standings, Goes, Laws, step_ok, step_does}
 
 -- ---- a node that is new
 
@@ -93,6 +93,7 @@ module _ (w : World) (accs : Accounts) (number : ℕ) (holds : Holds w accs) (mo
         (λ o. rw (at_other w.nodes n new k o) (holds.nodes k))
         (same_or_not k n);
     packets = holds.packets;
+    standings = added_standings w n new refl holds.standings;
   }
     where
       new : Node
@@ -156,7 +157,7 @@ module _ (codecs : Codecs) (laws : Laws) (number : ℕ) (w : World) (accs : Acco
       subst
       (λ (y : Node). Comes accs p.to y.end (sender_of p.from p.origin) (uncovered_event y.end.config.secret (event.Datagram (address_of p.from) p.bytes)))
       same
-      (is_packet codecs accs holds.accounts p.to node ok.0 p (sent p found) refl young))) leads)
+      (is_packet codecs accs holds.accounts p.to node ok.0 w holds.standings p (sent p found) refl young))) leads)
       refl h
 
   host_comes : (n : ℕ) (a : Access) (e : End) (bytes : List ℕ) (ev : Event) → HostDoes a e bytes ev → (q : End) (secret : Option (List ℕ))
@@ -214,11 +215,12 @@ module _ (codecs : Codecs) (laws : Laws) (number : ℕ) (w : World) (accs : Acco
 
   -- a data packet is loaded
   load_ok : (n : ℕ) (o : Option Packet) → OfLoad (Does w accs (most + 16384) number) w number n o
-  unfolding held_line birth_of
+  unfolding held_line birth_of standing_of
   load_ok n o = record {
     dropped = λ word other. record { goes = quiet_goes w accs most holds had; does = Nothing refl refl (births_same w) };
     held = λ f is. record {
-      goes = quiet_goes (held_line w number n f).world accs most (record { accounts = holds.accounts; nodes = holds.nodes; packets = holds.packets }) had;
+      goes = quiet_goes (held_line w number n f).world accs most
+          (record { accounts = holds.accounts; nodes = holds.nodes; packets = holds.packets; standings = holds.standings }) had;
       does = Nothing refl refl (record { count = refl; births = λ k s. refl });
     };
   }
@@ -330,7 +332,8 @@ module _ (codecs : Codecs) (laws : Laws) (number : ℕ) (w : World) (accs : Acco
       }
 
   taken_holds : (n held : ℕ) → Holds (taken_up w n held) accs
-  taken_holds n held = record { accounts = holds.accounts; nodes = holds.nodes; packets = holds.packets }
+  unfolding standing_of
+  taken_holds n held = record { accounts = holds.accounts; nodes = holds.nodes; packets = holds.packets; standings = holds.standings }
 
   heard_ok : (n held : ℕ) (k : IsHeldAt w n held) (y : Lined) → stepped (taken_up w n held) number n (event.Lcp k.frame.session k.frame.frame) None (Ok k.node) ≡ Ok y
       → Does (taken_up w n held) accs (most + 16384) number y

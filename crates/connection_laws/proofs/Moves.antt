@@ -44,3 +44,4 @@ moves_keep codecs classes accs n e x sender moment ev (move.Negotiated m) d h = 
 moves_keep codecs classes accs n e x sender moment ev (move.Counted m) d h = counted_keeps accs n e x sender moment ev m d h
 moves_keep codecs classes accs n e x sender moment ev (move.FrameSent m) d h = frame_sent_keeps accs n e x sender moment ev m d h
 moves_keep codecs classes accs n e x sender moment ev (move.FrameUp m) d h = frame_up_keeps accs n e x sender moment ev m d h
+moves_keep codecs classes accs n e x sender moment ev m d h = absurd h.main

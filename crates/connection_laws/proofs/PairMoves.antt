@@ -81,6 +81,7 @@ module _ (accs : Accounts) (n i : ℕ) (t : Tunnel) (live : LiveOk accs n i (acc
     taken = omega arith;
     calls = are.remotes;
     order = are.order;
+    recovery = refl;
   }
 
   -- it is given a letter too
@@ -101,6 +102,7 @@ module _ (accs : Accounts) (n i : ℕ) (t : Tunnel) (live : LiveOk accs n i (acc
         taken = omega arith;
         calls = are.remotes;
         order = are.order;
+        recovery = refl;
       }
 
 calls_put : (calls : List (ℕ × Call)) (s : ℕ) (k : Call) → AreCalls calls → k.remote < 65536 → AreCalls (put calls s k)

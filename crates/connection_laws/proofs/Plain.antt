@@ -5,7 +5,7 @@ use Rattle.recv_window.specs.Window.{on_wire}
 use Rattle.end_model.specs.Secrets.{uncovered_datagram}
 use Rattle.step_laws.specs.Letters.{Letter}
 use Rattle.frame_laws.specs.Codecs.{Codecs}
-use Rattle.frame_laws.specs.Plain.{IsReadAs, IsUncovered, stays_plain, letter_uncovered, frame_stays}
+use Rattle.frame_laws.specs.Plain.{IsReadAs, stays_plain, letter_uncovered, frame_stays}
 use Rattle.connection_laws.specs.Facts.{IsSpelled, kept_letter, IsData}
 
 pub on_wire_fits : (n : ℕ) → on_wire n < 65536

@@ -228,6 +228,7 @@ module _ (codecs : Codecs) (classes : ClassIsTrue) (accs : Accounts) (n : ℕ) (
             queued = refl;
             outstanding = refl;
             taken = omega arith;
+            recovery = refl;
           };
           shuts = inr (is_shut.1, refl);
           only = only_after accs d n mv tt h.deed.node_is h.deed.move_is tt;
@@ -274,6 +275,7 @@ module _ (codecs : Codecs) (classes : ClassIsTrue) (accs : Accounts) (n : ℕ) (
           queued = refl;
           outstanding = refl;
           taken = omega arith;
+          recovery = refl;
         };
         shuts = inl (is_open, refl);
         only = only_after accs d n mv tt h.deed.node_is h.deed.move_is is_open;

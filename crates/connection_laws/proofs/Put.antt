@@ -96,6 +96,7 @@ module _ (accs ms : Accounts) (n : ℕ) (e x : End) (sender : Option Sender) (ev
       (λ q. rw (as_before j q.0) (before j u b q.1))
       (found j u f)
   near p bytes (origin.Data session) before here = tt
+  near p bytes (origin.Recovery tunnel number empty) before here = tt
 
   comes : (v : Event) (c : Comes accs n e sender v) → ComesNear accs n e sender v c ms i t → Comes ms n x sender v
   comes (Datagram peer bytes) c here = record {

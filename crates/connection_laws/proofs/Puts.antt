@@ -43,6 +43,7 @@ abbrev pub NearAt : Accounts → ℕ → ℕ → Tunnel → Packet → List ℕ 
 NearAt ms n i t p bytes (origin.Control o) =
     (h : Header) → t.control.peer ≡ address_of p.from → header_of bytes ≡ Ok h → IsFor h (body_of bytes h) t.control → IsNear (ms n i) t o
 NearAt ms n i t p bytes (origin.Data session) = Unit {0}
+NearAt ms n i t p bytes (origin.Recovery tunnel number empty) = Unit {0}
 
 abbrev pub ComesNear : (accs : Accounts) (n : ℕ) (e : End) (sender : Option Sender) (ev : Event) → Comes accs n e sender ev
     → Accounts → ℕ → Tunnel → Type 0

@@ -1,7 +1,7 @@
 -- How the numbers of a control message are read that reaches a live tunnel.
 use Rattle.std.proofs.Common.{◌≡◌, ◌⊎◌, inl, inr, ⊎_elim, ℕ, ◌+◌, ◌<◌, ◌≤◌, Bool, true, false, cond, eqb, List, length, refl, sym, ap, ap₂, ◌∙◌, subst, Option, Some, None, Result, Ok, Err, arith}
 use Rattle.std.proofs.lemmas.Bool.{eqb-true, eqb-false}
-use Rattle.std.specs.Prelude.{option_map}
+use Rattle.std.specs.Prelude.{option_map, is_some, ◌==◌}
 use Rattle.id_table.specs.Ids.{at}
 use Rattle.id_table.specs.Order.{same_or_not}
 use Rattle.recv_window.specs.Window.{ClassIsTrue}
@@ -11,7 +11,7 @@ use Rattle.l2tp_header.specs.declared.header.HeaderError.{HeaderError}
 use Rattle.l2tp_header.specs.Reading.{header_of, body_of}
 use Rattle.end_model.specs.Secrets.{uncovered_datagram}
 use Rattle.end_model.specs.declared.event.Addressee.{Addressee}
-use Rattle.end_model.specs.declared.event.Addressee.TheVariants.{Opens, Stops, Answers, Main, Nobody}
+use Rattle.end_model.specs.declared.event.Addressee.TheVariants.{Opens, Stops, Answers, Main, Recovery, Recovers, Nobody}
 use Rattle.end_model.specs.declared.tunnel.Control.{Control}
 use Rattle.end_model.specs.declared.out.Origin.{Origin}
 use Rattle.end_model.specs.declared.out.Origin.TheVariants as origin
@@ -20,7 +20,7 @@ use Rattle.world_model.specs.declared.packet.Packet.{Packet}
 use Rattle.end_names.specs.Names.{address_of}
 use Rattle.end_model.specs.Reading.{at_zero, at_tunnel}
 use Rattle.end_model.specs.Tunnels.{Tunnel}
-use Rattle.end_model.specs.End.{reached, End, opens_once, addressed, main_of, reached_by, reached_plain}
+use Rattle.end_model.specs.End.{reached, End, opens_once, at_line, at_recovery, recovered_by, addressed, main_of, reached_by, reached_plain}
 use Rattle.world_model.specs.World.{Node, too_old}
 use Rattle.world_model.specs.Run.{Run}
 use Rattle.step_laws.specs.Steps.{AreKept}
@@ -60,17 +60,37 @@ named_there peer k i (Some u) h =
     let n = named_peer peer k i u.control.peer h in
     (n.0, λ t is. (let same : u ≡ t = cc in ap (λ (x : Tunnel). x.control.peer) (sym same) ∙ n.1))
 
+-- a message for a recovery tunnel isn't for its tunnel
+line_is : (e : End) (peer i j : ℕ) (o : Option Tunnel) → at_line peer j o ≡ Main i → ⊥
+line_is e peer i j None h = cc
+line_is e peer i j (Some t) h = by (t.control.peer == peer) h
+  where
+    by : (b : Bool) → cond b (Recovery j) (Nobody why.Peer) ≡ Main i → ⊥
+    by true h = cc
+    by false h = cc
+
+recovery_is : (e : End) (peer : ℕ) (o : Option ℕ) (i : ℕ) → at_recovery e peer o ≡ Main i → ⊥
+recovery_is e peer None i h = cc
+recovery_is e peer (Some j) i h = line_is e peer i j (at e.tunnels j) h
+
+of_main : (e : End) (peer : ℕ) (o : Option ℕ) (i : ℕ) (b : Bool) (a : Addressee) → cond b a (at_recovery e peer o) ≡ Main i → a ≡ Main i
+of_main e peer o i true a h = h
+of_main e peer o i false a h = absurd (recovery_is e peer o i h)
+
 is_named : (e : End) (peer : ℕ) (h : Header) (body : List ℕ) (i : ℕ) (t : Tunnel) → at e.tunnels i ≡ Some t → addressed e peer h body ≡ Main i
     → IsNamed peer h i t
 unfolding addressed
 is_named e peer h body i t there main = by (eqb h.tunnel 0) refl main
   where
     by : (b : Bool) → eqb h.tunnel 0 ≡ b
-        → cond b (opens_once e peer (at_zero body)) (at_tunnel peer h.tunnel (option_map (λ (x : Tunnel). x.control.peer) (at e.tunnels h.tunnel))) ≡ Main i
+        → cond b (opens_once e peer (at_zero body)) (cond (is_some (at e.tunnels h.tunnel))
+        (at_tunnel peer h.tunnel (option_map (λ (x : Tunnel). x.control.peer) (at e.tunnels h.tunnel)))
+        (at_recovery e peer (recovered_by h.tunnel e.tunnels))) ≡ Main i
         → IsNamed peer h i t
     by true is g = inr (eqb-true h.tunnel 0 is)
     by false is g =
-        let n = named_there peer h.tunnel i (at e.tunnels h.tunnel) g in
+        let n = named_there peer h.tunnel i (at e.tunnels h.tunnel)
+        (of_main e peer (recovered_by h.tunnel e.tunnels) i (is_some (at e.tunnels h.tunnel)) _ g) in
         inl (eqb-false h.tunnel 0 is, n.0, n.1 t (rw n.0 there))
 
 record IsReached (e : End) (peer : ℕ) (bytes : List ℕ) (h : Header) (c : Control) : Type 0 where
@@ -87,6 +107,8 @@ main_is e (Opens r) c h = absurd cc
 main_is e (Stops r) c h = absurd cc
 main_is e (Answers r) c h = absurd cc
 main_is e (Main i) c h = (i, refl, h)
+main_is e (Recovery i) c h = absurd cc
+main_is e (Recovers r) c h = absurd cc
 main_is e (Nobody w) c h = absurd cc
 
 is_some_of : {X : Type 0} (b : Bool) (o : Option X) (x : X) → cond b o None ≡ Some x → o ≡ Some x
@@ -249,7 +271,8 @@ module _ (codecs : Codecs) (classes : ClassIsTrue) (r : Run) (holds : Holds r.wo
   known_accounts = account_of r.done
 
   packet_read : (p : Packet) → PacketOk known_accounts p → (o : ControlOrigin) → p.origin ≡ origin.Control o → (node : Node)
-      → at r.world.nodes p.to ≡ Some node → (c : Control) → reached node.end (address_of p.from) p.bytes ≡ Some c → too_old o (Some c) ≡ None → IsRead c o
+      → at r.world.nodes p.to ≡ Some node → (c : Control) → reached node.end (address_of p.from) p.bytes ≡ Some c
+      → too_old p.epoch o r.world p.to (Some c) ≡ None → IsRead c o
   packet_read p ok o is node there c reached_it young = by (header_of bytes) refl
     where
       bytes : List ℕ
@@ -268,7 +291,8 @@ module _ (codecs : Codecs) (classes : ClassIsTrue) (r : Run) (holds : Holds r.wo
           fits codecs known_accounts holds.accounts p.to k.id some p o copy refl node.end.config.secret h read (address_of p.from) k.tunnel k.named)
           (λ (r : IsRefusal known_accounts p o). refusal_fits known_accounts p.to k.id p o r)
           sent in
-          let y = is_young o k.tunnel.control (subst (λ (q : Control). too_old o (Some q) ≡ None) k.same young) in
+          let y = is_young r.world p.to p.epoch o k.tunnel.control ok.epoch (holds.standings p.to k.tunnel.control.local)
+          (subst (λ (q : Control). too_old p.epoch o r.world p.to (Some q) ≡ None) k.same young) in
           subst (λ (q : Control). IsRead q o) (sym k.same) (is_read classes known_accounts p.to k.id k.tunnel o live y fit)
 
   pub numbers_read : NumbersAreRead r

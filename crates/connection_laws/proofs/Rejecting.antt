@@ -13,7 +13,6 @@ use Rattle.tunnel_fsm.specs.declared.table.TunnelState.TheVariants as state
 use Rattle.end_model.specs.declared.event.Event.{Event}
 use Rattle.end_model.specs.declared.moves.Move.TheVariants as move
 use Rattle.end_model.specs.declared.out.ControlOrigin.{ControlOrigin}
-use Rattle.end_model.specs.declared.tunnel.Control.{Control}
 use Rattle.end_model.specs.Tunnels.{Tunnel}
 use Rattle.end_model.specs.Channels.{counts_taken}
 use Rattle.end_model.specs.End.{End}
@@ -339,6 +338,7 @@ module _ (codecs : Codecs) (classes : ClassIsTrue) (accs : Accounts) (n : ℕ) (
             ((λ z. absurd (known z)), (λ z. rw stays (omega (arith, few_acked, one_taken))));
         calls = λ s k f. absurd (none-some k (sym (at-none s) ∙ f));
         order = ascends-empty [] refl;
+        recovery = live.recovery;
       }
 
   near : IsNear b u o

@@ -38,6 +38,7 @@ module _ (accs : Accounts) (n : ℕ) (e : End) (sender : Option Sender) (ev : Ev
   near : (p : Packet) (bytes : List ℕ) (o : Origin) → AreNear accs n e p bytes o → AreNear accs n left p bytes o
   near p bytes (origin.Control o) h = λ j t b f. h j t b (found_without e.tunnels i j t within.end.order f).1
   near p bytes (origin.Data session) h = tt
+  near p bytes (origin.Recovery tunnel number empty) h = tt
 
   comes : (v : Event) → Comes accs n e sender v → Comes accs n left sender v
   comes (Datagram peer bytes) c = record {

@@ -1,12 +1,12 @@
 -- A run of lines.
-use Rattle.std.proofs.Common.{◌≡◌, ℕ, ◌+◌, ◌*◌, ◌^◌, ◌<◌, List, [], ◌∷◌, ◌++◌, length, refl, sym, ◌∙◌, subst, Option, Some, Result, Ok, Err, arith}
+use Rattle.std.proofs.Common.{◌≡◌, ℕ, ◌+◌, ◌*◌, ◌^◌, ◌<◌, List, [], ◌∷◌, ◌++◌, length, refl, sym, ap, ◌∙◌, subst, Option, Some, Result, Ok, Err, arith}
 use mathlib.Core.Path.{fun_ext}
 use Rattle.std.proofs.lemmas.Option.{none-some}
 use Rattle.id_table.specs.Ids.{at-none}
 use Rattle.schedule_text.specs.declared.line.Line.{Line}
 use Rattle.schedule_text.specs.Grammar.{AreLines}
 use Rattle.world_model.specs.declared.refusal.Refusal.{Refusal}
-use Rattle.world_model.specs.World.{Node, Deed, Lined, line}
+use Rattle.world_model.specs.World.{Node, Deed, Lined, empty_world, standing_in, standing_of, no_standing, line}
 use Rattle.world_model.specs.Run.{Run, empty_run, after_line, goes_on, run_from}
 use Rattle.step_laws.specs.Calm.{WorldIsCalm, AreCalm, calm_line}
 use Rattle.frame_laws.specs.Codecs.{Codecs}
@@ -52,12 +52,17 @@ no_account_ok accs n i = record {
   ignored = λ number t there le. absurd cc;
 }
 
+no_standings : (n i : ℕ) → standing_of empty_world n i ≡ no_standing
+unfolding standing_of
+no_standings n i = ap (λ (o : Option Node). standing_in o i) (at-none n)
+
 pub begins : HoldsAt 0 empty_run
 begins = record {
   holds = record {
     accounts = λ n i. subst (λ a. AccountOk (account_of []) n i a) (sym (nothing_known n i)) (no_account_ok (account_of []) n i);
     nodes = λ n. subst (λ (o : Option Node). NodeOk (account_of []) n o) (sym (at-none n)) (λ i. nothing_known n i);
     packets = tt;
+    standings = no_standings;
   };
   given = λ n i. rw (nothing_known n i) (omega arith);
   calm = λ n node there. absurd (none-some node (sym (at-none n) ∙ there));

@@ -1,6 +1,6 @@
 -- What a step sends is a copy of a letter of its sender, or of none, or a data message.
 use Rattle.std.proofs.Common.{◌≡◌, ◌⊎◌, inl, inr, ⊎_elim, ℕ, zero, suc, ◌+◌, ◌-◌, ◌%◌, ◌^◌, ◌<◌, ◌≤◌, true, false, List, [], ◌∷◌, length, drop, map, refl, sym, ap, ◌∙◌, subst, Option, Some, None, arith}
-use Rattle.std.proofs.lemmas.Option.{slice_get-map, slice_get_within}
+use Rattle.std.proofs.lemmas.Option.{none-some, slice_get-map, slice_get_within}
 use Rattle.std.specs.Prelude.{slice_get, option_map}
 use Rattle.id_table.specs.Ids.{at}
 use Rattle.id_table.specs.Order.{same_or_not}
@@ -105,7 +105,7 @@ module _ (ms : Accounts) (n : ℕ) (x : End) (sender : Option Sender) (ev : Even
 
   module _ (peer : ℕ) (peer_is : peer ≡ t.control.peer) (bytes : List ℕ) where
     abbrev packet : Origin → Packet
-    packet o = packet_from n (node_of peer) bytes o
+    packet o = packet_from n (node_of peer) bytes o 0
 
     -- a copy, of whatever it says
     copy : (o : Origin) (c : ControlOrigin) → c.nr ≡ t.control.channel.inbox.taken → Says a c t.control.remote bytes → IsCopy a (packet o) c
@@ -132,6 +132,7 @@ module _ (ms : Accounts) (n : ℕ) (x : End) (sender : Option Sender) (ev : Even
     packet_of : (o : Origin) (c : ControlOrigin) → c.tunnel ≡ t.control.local → o ≡ origin.Control c → IsCopy a (packet o) c → PacketOk ms (packet o)
     packet_of o c from is is_copy = record {
       from = within.end.node;
+      epoch = refl;
       sent = subst (λ q. OriginOk ms (packet o) q) (sym is)
           (inl (subst (λ j. IsCopy (ms n j) (packet o) c) (sym (from ∙ live.local)) is_copy));
     }
@@ -150,6 +151,7 @@ module _ (ms : Accounts) (n : ℕ) (x : End) (sender : Option Sender) (ev : Even
         packet_of o c refl origin_is (copy o c refl (Nothing refl are))
     carries_ok moves fit o (carries.AFrame f among tunnel_is same number origin_is are) = record {
       from = within.end.node;
+      epoch = refl;
       sent = subst (λ q. OriginOk ms (packet o) q) (sym origin_is) (record {
         tunnel = t.control.remote;
         tunnel_fits = rw live.remote ok.remote;
@@ -161,3 +163,6 @@ module _ (ms : Accounts) (n : ℕ) (x : End) (sender : Option Sender) (ev : Even
         are = are;
       });
     }
+    -- it has no recovery tunnel
+    carries_ok moves fit o (carries.InRecovery r has m said number nr origin_is are) = absurd (none-some r (sym live.recovery ∙ has))
+    carries_ok moves fit o (carries.NothingInRecovery r has number nr origin_is are) = absurd (none-some r (sym live.recovery ∙ has))

@@ -1,5 +1,5 @@
 -- What holds where a step begins.
-use Rattle.std.proofs.Common.{ap, List, ◌≡◌, ⊎_elim, ℕ, ◌+◌, ◌≤◌, Bool, true, false, cond, refl, sym, ◌∙◌, subst, Option, Some, None, Ok, arith}
+use Rattle.std.proofs.Common.{List, ◌≡◌, ⊎_elim, ℕ, ◌+◌, ◌≤◌, Bool, true, false, cond, refl, sym, ◌∙◌, subst, Option, Some, None, Ok, arith}
 use Rattle.std.proofs.lemmas.Bool.Decides.{nat_tests}
 use Rattle.id_table.specs.Ids.{at}
 use Rattle.l2tp_header.specs.declared.header.Header.{Header}
@@ -19,7 +19,7 @@ use Rattle.end_model.specs.Reading.{at_zero}
 use Rattle.end_model.specs.Secrets.{uncovered_datagram}
 use Rattle.end_model.specs.Tunnels.{Tunnel}
 use Rattle.end_model.specs.End.{End, reached_plain}
-use Rattle.world_model.specs.World.{Node, outlives, too_old, refused_by, sender_of}
+use Rattle.world_model.specs.World.{World, Node, standing_of, no_standing, counts_of, outlives, outlived, too_old, refused_by, sender_of}
 use Rattle.step_laws.specs.Moves.{IsFor}
 use Rattle.step_laws.specs.Opens.{opens_said, empty_opens_none}
 use Rattle.frame_laws.specs.Codecs.{Codecs}
@@ -51,12 +51,14 @@ none_first false x o h = (refl, h)
 lives : (number count : ℕ) → outlives number count ≡ false → count ≤ number + 32767
 lives number count h = grind (arith, nat_tests)
 
-pub is_young : (o : ControlOrigin) (c : Control) → too_old o (Some c) ≡ None → IsYoung o c
+pub is_young : (w : World) (n epoch : ℕ) (o : ControlOrigin) (c : Control) → epoch ≡ 0 → standing_of w n c.local ≡ no_standing
+    → too_old epoch o w n (Some c) ≡ None → IsYoung o c
 unfolding too_old
-is_young o c h =
+is_young w n epoch o c first standing h =
+    let young : outlived o (counts_of c) ≡ None = rw (first, standing) at h in
     let taken = c.channel.inbox.taken in
     let acked = c.channel.window.acked in
-    let one = none_first (outlives o.ns taken) (HalfSpace o.ns taken) (cond (outlives o.nr acked) (Some (HalfSpace o.nr acked)) None) h in
+    let one = none_first (outlives o.ns taken) (HalfSpace o.ns taken) (cond (outlives o.nr acked) (Some (HalfSpace o.nr acked)) None) young in
     let two = none_first (outlives o.nr acked) (HalfSpace o.nr acked) None one.1 in
     record { taken = lives o.ns taken one.0; acked = lives o.nr acked two.0 }
 
@@ -65,8 +67,8 @@ is_young o c h =
 written_opens : (m : Message) (x : Opening) → m ≡ Sccrq x → IsWritten m → x.tunnel ≡ 0 → ⊥
 written_opens m x is w z = let k = subst IsWritten is w in let lt = k.0.tunnel_not_zero in absurd (omega arith)
 
-module _ (codecs : Codecs) (accs : Accounts) (accounts : (m j : ℕ) → AccountOk accs m j (accs m j)) (n : ℕ) (e : End) (ok : EndOk accs n e) (p : Packet)
-    (secret : Option (List ℕ)) where
+module _ (codecs : Codecs) (accs : Accounts) (accounts : (m j : ℕ) → AccountOk accs m j (accs m j)) (n : ℕ) (e : End) (ok : EndOk accs n e) (w : World)
+    (standings : (k i : ℕ) → standing_of w k i ≡ no_standing) (p : Packet) (first : p.epoch ≡ 0) (secret : Option (List ℕ)) where
   -- the packet as it is read
   abbrev bytes : List ℕ
   bytes = uncovered_datagram secret p.bytes
@@ -117,14 +119,15 @@ module _ (codecs : Codecs) (accs : Accounts) (accounts : (m j : ℕ) → Account
   near_of : (o : ControlOrigin)
       → ((i : ℕ) (t : Tunnel) (h : Header) → at e.tunnels i ≡ Some t → t.control.peer ≡ address_of p.from → header_of bytes ≡ Ok h
       → IsFor h (body_of bytes h) t.control → reached_plain e (address_of p.from) bytes ≡ Some t.control)
-      → too_old o (reached_plain e (address_of p.from) bytes) ≡ None → AreNear accs n e p bytes (origin.Control o)
+      → too_old p.epoch o w p.to (reached_plain e (address_of p.from) bytes) ≡ None → AreNear accs n e p bytes (origin.Control o)
   near_of o reaches young i t h there peer read is =
-      let y = is_young o t.control (rw (reaches i t h there peer read is) at young) in
+      let y = is_young w p.to p.epoch o t.control first (standings p.to t.control.local) (rw (reaches i t h there peer read is) at young) in
       let taken = (ok.live i t there).taken in
       let le = y.taken in
       record { taken = omega arith; acked = y.acked }
 
-  near_all : (q : Origin) → OriginOk accs p q → ((o : ControlOrigin) → q ≡ origin.Control o → too_old o (reached_plain e (address_of p.from) bytes) ≡ None)
+  near_all : (q : Origin) → OriginOk accs p q
+      → ((o : ControlOrigin) → q ≡ origin.Control o → too_old p.epoch o w p.to (reached_plain e (address_of p.from) bytes) ≡ None)
       → AreNear accs n e p bytes q
   near_all (origin.Control o) c young =
       ⊎_elim
@@ -132,20 +135,25 @@ module _ (codecs : Codecs) (accs : Accounts) (accounts : (m j : ℕ) → Account
       (λ (k : IsRefusal accs p o). near_of o (refusal_reaches o k) (young o refl))
       c
   near_all (origin.Data session) c young = tt
+  near_all (origin.Recovery tunnel number empty) c young = tt
 
 -- a packet that isn't refused, as its node reads it
 module _ (codecs : Codecs) (accs : Accounts) (accounts : (m j : ℕ) → AccountOk accs m j (accs m j)) (n : ℕ) (node : Node) (ok : EndOk accs n node.end)
-    (p : Packet) where
+    (w : World) (standings : (k i : ℕ) → standing_of w k i ≡ no_standing) (p : Packet) where
   abbrev own : Option (List ℕ)
   own = node.end.config.secret
 
-  not_too_old : (q : Origin) → refused_by p node q ≡ None → (o : ControlOrigin) → q ≡ origin.Control o
-      → too_old o (reached_plain node.end (address_of p.from) (uncovered_datagram own p.bytes)) ≡ None
+  not_too_old : (q : Origin) → refused_by w p node q ≡ None → (o : ControlOrigin) → q ≡ origin.Control o
+      → too_old p.epoch o w p.to (reached_plain node.end (address_of p.from) (uncovered_datagram own p.bytes)) ≡ None
   unfolding refused_by
-  not_too_old (origin.Control c) young o is = let same : c ≡ o = cc in subst (λ (y : ControlOrigin). too_old y (reached_plain node.end (address_of p.from) (uncovered_datagram own p.bytes)) ≡ None) same young
+  not_too_old (origin.Control c) young o is =
+      let same : c ≡ o = cc in
+      subst (λ (y : ControlOrigin). too_old p.epoch y w p.to (reached_plain node.end (address_of p.from) (uncovered_datagram own p.bytes)) ≡ None)
+      same young
   not_too_old (origin.Data session) young o is = absurd cc
+  not_too_old (origin.Recovery tunnel number empty) young o is = absurd cc
 
-  pub is_packet : PacketOk accs p → p.to ≡ n → refused_by p node p.origin ≡ None
+  pub is_packet : PacketOk accs p → p.to ≡ n → refused_by w p node p.origin ≡ None
       → IsPacket accs n node.end (sender_of p.from p.origin) (address_of p.from) (uncovered_datagram own p.bytes)
   is_packet sent to young = record {
     packet = p;
@@ -155,5 +163,5 @@ module _ (codecs : Codecs) (accs : Accounts) (accounts : (m j : ℕ) → Account
     secret = own;
     bytes_are = refl;
     sender_is = refl;
-    near = near_all codecs accs accounts n node.end ok p own p.origin sent.sent (not_too_old p.origin young);
+    near = near_all codecs accs accounts n node.end ok w standings p sent.epoch own p.origin sent.sent (not_too_old p.origin young);
   }

@@ -171,6 +171,7 @@ live_now ms n i a now t keeps h = record {
   acked = are_acked_on ms n i a (record a { declined = now }) t.control.channel.window.acked refl refl keeps a.part h.acked;
   calls = h.calls;
   order = h.order;
+  recovery = h.recovery;
 }
   where
     state : (q : Part) → IsInState ms i a t q → IsInState ms i (record a { declined = now }) t q
@@ -215,6 +216,7 @@ near_stays accs ms all n e p bytes (origin.Control o) before = λ i t h there pe
     let k = before i t h there peer read is in
     record { taken = subst (λ (y : Account). length y.taken ≤ o.ns + 32768) (sym (all n i).is) k.taken; acked = k.acked }
 near_stays accs ms all n e p bytes (origin.Data session) before = tt
+near_stays accs ms all n e p bytes (origin.Recovery tunnel number empty) before = tt
 
 comes_stays : (accs ms : Accounts) → AllStay accs ms → (n : ℕ) (e : End) (sender : Option Sender) (v : Event) → Comes accs n e sender v
     → Comes ms n e sender v
@@ -288,6 +290,7 @@ declines_or_not (move.Negotiated m) = inl tt
 declines_or_not (move.Counted m) = inl tt
 declines_or_not (move.FrameSent m) = inl tt
 declines_or_not (move.FrameUp m) = inl tt
+declines_or_not m = inl tt
 
 -- the accounts after its deed
 after_declined : (accs : Accounts) (d : Deed) (m : Declined) → d.move ≡ move.Declined m → (k j : ℕ)

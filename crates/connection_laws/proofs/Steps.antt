@@ -1,6 +1,7 @@
 -- What a chain of moves of a step keeps.
-use Rattle.std.proofs.Common.{◌≡◌, ⊎_elim, ℕ, ◌+◌, ◌*◌, ◌^◌, ◌<◌, ◌≤◌, List, [], ◌∷◌, ◌++◌, length, map, refl, sym, ap, ◌∙◌, subst, Option, Some, Ok, arith, flat_map}
+use Rattle.std.proofs.Common.{◌≡◌, inl, ⊎_elim, ℕ, ◌+◌, ◌*◌, ◌^◌, ◌<◌, ◌≤◌, List, [], ◌∷◌, ◌++◌, length, map, refl, sym, ap, ◌∙◌, subst, Option, Some, Ok, arith, flat_map}
 use Rattle.std.proofs.lemmas.List.{length-append}
+use Rattle.std.specs.List.{AllByRecursion}
 use Rattle.id_table.specs.Ids.{at}
 use Rattle.id_source.specs.Spaces.{takes_id, draw_is}
 use Rattle.tunnel_fsm.specs.Rows.{state_number}
@@ -18,11 +19,13 @@ use Rattle.step_laws.specs.Letters.{Among}
 use Rattle.step_laws.specs.Moves.{Does, Chain, Declines, SendsFrame}
 use Rattle.step_laws.specs.Codes.{decline_codes_fit}
 use Rattle.step_laws.specs.Ups.{reads_of_move}
+use Rattle.step_laws.specs.Steps.{IsOfNoStart}
+use Rattle.frame_laws.specs.Unrecovered.{IsMain, is_main}
 use Rattle.frame_laws.proofs.Chains.{does_role}
 use Rattle.connection_laws.specs.Accounts.{Account, no_account, about, after_deed, account_from}
 use Rattle.connection_laws.specs.Facts.{Accounts, IsOpen, Within}
 use Rattle.connection_laws.proofs.Keeps.{after, IsMoved, MovesKeep}
-use Rattle.connection_laws.specs.Steps.{MovesWithin, ClosingsAreKnown, DeclinesAreOfOpenings}
+use Rattle.connection_laws.specs.Steps.{MovesWithin, ClosingsAreKnown, DeclinesAreOfOpenings, OpeningsAreAcceptable}
 use Rattle.connection_laws.proofs.Later.{extends_same, extends_on, AllExtend, all_extend, DeclinesNone, MayEnter, only_after, after_there}
 use Rattle.connection_laws.proofs.Staying.{Stays, stays_same, stays_on, all_stay_extend, given_stays, IsDeclining, declines_or_not, opening_stays, WasOpening, was_opening, opening_later}
 use Rattle.connection_laws.proofs.States.{not_closed, is_open_so, is_waiting, closes_open}
@@ -80,6 +83,7 @@ module _ (closings : ClosingsAreKnown) (accs : Accounts) (n : ℕ) (e : End) (se
   may_enter (move.Counted m) x h = tt
   may_enter (move.FrameSent m) x h = tt
   may_enter (move.FrameUp m) x h = tt
+  may_enter m x h = tt
 
 -- ---- the frames that moves send
 
@@ -119,6 +123,7 @@ pub record Ran (accs ms : Accounts) (n : ℕ) (e x : End) (sender : Option Sende
   pub moves : MovesWithin accs n e sender moment ev deed made x
   pub openings : (q : Declined) → Among (move.Declined q) made → WasOpening ms n q
   pub frames : FramesFit made
+  pub main : AllByRecursion IsMain made
 
 -- what one move leaves of the accounts
 record MoveLeaves (accs ms : Accounts) (n most : ℕ) (m : Move) : Type 0 where
@@ -136,16 +141,16 @@ reads_in ms = flat_map reads_of_move ms
 abbrev pub deeds : World → ℕ → ℕ → Role → Option Sender → List Move → List Deed
 deeds v line n r sender ms = map (λ m. deed_of v line n r sender m) ms
 
-module _ (moves_keep : MovesKeep) (closings : ClosingsAreKnown) (declines : DeclinesAreOfOpenings) (v : World) (line n : ℕ) (r : Role)
-    (sender : Option Sender) (moment : ℕ) (ev : Event) where
-  move_leaves : (accs : Accounts) (e y : End) (m : Move) (d : Deed) (top most : ℕ) → d.node ≡ n → d.move ≡ m → Within accs n e sender ev
+module _ (moves_keep : MovesKeep) (closings : ClosingsAreKnown) (declines : DeclinesAreOfOpenings) (acceptable : OpeningsAreAcceptable)
+    (v : World) (line n : ℕ) (r : Role) (sender : Option Sender) (moment : ℕ) (ev : Event) where
+  move_leaves : (accs : Accounts) (e y : End) (m : Move) → IsMain m → (d : Deed) (top most : ℕ) → d.node ≡ n → d.move ≡ m → Within accs n e sender ev
       → Does e moment ev m y → Within (after accs d) n y sender ev → AckedBelow y top → top + 8192 ≤ most → GivenBelow accs most
       → MoveLeaves accs (after accs d) n most m
-  move_leaves accs e y m d top most node is within does then below room had = ⊎_elim
+  move_leaves accs e y m main d top most node is within does then below room had = ⊎_elim
       (λ (plain : DeclinesNone m). record {
         grown = all_extend accs (after accs d) n (about m)
             (only_after accs d n m plain node is (may_enter closings accs n e sender moment ev within m y does));
-        given = given_after accs n e y sender moment ev m d top most plain node is does then below room had;
+        given = given_after accs n e y sender moment ev m main d top most plain node is does then below room had;
         others = λ k j other. stays_same (accs k j) (after accs d k j)
             (after_there accs d k j (subst DeclinesNone (sym is) plain) (λ both. other (both.0 ∙ node)));
         openings = λ q same. absurd (no_opening m plain q same);
@@ -163,12 +168,19 @@ module _ (moves_keep : MovesKeep) (closings : ClosingsAreKnown) (declines : Decl
       })
       (declines_or_not m)
 
-  pub chain_keeps : (ms : List Move) (accs : Accounts) (e x : End) (top most : ℕ) → Chain moment ev e ms x → e.role ≡ r → Within accs n e sender ev
-      → AckedBelow e top → GivenBelow accs most → top + 8192 * length (reads_in ms) + 8192 ≤ most → most + 3 < 2 ^ 64
+  -- a move that is made where all of it holds isn't one of a recovery
+  main_within : (accs : Accounts) (e y : End) (m : Move) → Within accs n e sender ev → IsOfNoStart m → Does e moment ev m y → IsMain m
+  main_within accs e y m within start does =
+      is_main e (λ i t there. (within.end.live i t there).recovery) moment ev
+      (λ k came o said. (acceptable accs n e sender ev within k.peer k.header.session o
+      (inl (record { letter = k; came = came; peer_is = refl; says = record { session_is = refl; said = said } }))).1) m start y does
+
+  pub chain_keeps : (ms : List Move) (accs : Accounts) (e x : End) (top most : ℕ) → AllByRecursion IsOfNoStart ms → Chain moment ev e ms x
+      → e.role ≡ r → Within accs n e sender ev → AckedBelow e top → GivenBelow accs most → top + 8192 * length (reads_in ms) + 8192 ≤ most → most + 3 < 2 ^ 64
       → Ran accs (afterwards accs (deeds v line n r sender ms)) n e x sender moment ev (λ m. deed_of v line n r sender m) ms
       (top + 8192 * length (reads_in ms)) most
   unfolding account_from
-  chain_keeps [] accs e x top most h role within below had room last = record {
+  chain_keeps [] accs e x top most starts h role within below had room last = record {
     kept = record {
       within = subst (λ y. Within accs n y sender ev) h within;
       below = λ i t there. let le = below i t (subst (λ (y : End). at y.tunnels i ≡ Some t) (sym h) there) in omega arith;
@@ -179,10 +191,12 @@ module _ (moves_keep : MovesKeep) (closings : ClosingsAreKnown) (declines : Decl
     moves = h;
     openings = λ q among. absurd among;
     frames = λ f among. absurd among;
+    main = tt;
   }
-  chain_keeps (m ∷ ms) accs e x top most h role within below had room last =
+  chain_keeps (m ∷ ms) accs e x top most starts h role within below had room last =
       let d = deed_of v line n r sender m in
       let y = h.0 in
+      let main = main_within accs e y m within starts.0 h.1 in
       let reads = length (reads_of_move m) in
       let count = length-append (reads_of_move m) (reads_in ms) in
       let made : IsMoved accs n e y sender moment ev m d = record {
@@ -190,12 +204,13 @@ module _ (moves_keep : MovesKeep) (closings : ClosingsAreKnown) (declines : Decl
         numbers = has_numbers e top below (omega (arith, room, last));
         counts = has_counts accs n e sender ev most within had last;
         does = h.1;
+        main = main;
         deed = record { node_is = refl; role_is = sym role; sender_is = refl; move_is = refl };
       } in
       let w : Within (after accs d) n y sender ev = moves_keep accs n e y sender moment ev m d made in
-      let next = does_below e y moment ev m top within.end.order (few_out accs n e sender ev within) below h.1 in
-      let leaves = move_leaves accs e y m d (top + 8192 * reads) most refl refl within h.1 w next (omega (arith, room, count)) had in
-      let k = chain_keeps ms (after accs d) y x (top + 8192 * reads) most h.2 (does_role moment ev e m y h.1 ∙ role) w next leaves.given
+      let next = does_below e y moment ev m main top within.end.order (few_out accs n e sender ev within) below h.1 in
+      let leaves = move_leaves accs e y m main d (top + 8192 * reads) most refl refl within h.1 w next (omega (arith, room, count)) had in
+      let k = chain_keeps ms (after accs d) y x (top + 8192 * reads) most starts.1 h.2 (does_role moment ev e m y h.1 ∙ role) w next leaves.given
       (omega (arith, room, count)) last in
       let left : Accounts = afterwards (after accs d) (deeds v line n r sender ms) in
       record {
@@ -216,4 +231,5 @@ module _ (moves_keep : MovesKeep) (closings : ClosingsAreKnown) (declines : Decl
             frame_fits accs n e y sender moment ev f within (subst (λ (q : Move). Does e moment ev q y) same h.1))
             (λ (later : Among (move.FrameSent f) ms). k.frames f later)
             among;
+        main = (main, k.main);
       }

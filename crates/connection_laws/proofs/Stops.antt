@@ -1,6 +1,7 @@
 -- What a StopCCN that names no tunnel tells.
 use Rattle.std.proofs.Common.{◌≡◌, ℕ, Bool, true, false, cond, eqb, List, [], refl, subst, Option, Some, Result, Ok, Err}
 use Rattle.std.proofs.lemmas.Bool.{eqb-false}
+use Rattle.std.specs.Prelude.{is_some}
 use Rattle.avp_codec.specs.declared.avp.Avp.{Avp}
 use Rattle.avp_codec.specs.declared.error.AvpError.{AvpError}
 use Rattle.avp_codec.specs.Reading.{avps_of}
@@ -10,8 +11,8 @@ use Rattle.control_message.specs.declared.message.Message.TheVariants.{Sccrq, Sc
 use Rattle.control_message.specs.declared.message.MessageError.{MessageError}
 use Rattle.control_message.specs.declared.message.Read.{Read}
 use Rattle.control_message.specs.declared.message.Read.TheVariants.{Known, Ignored}
-use Rattle.control_message.specs.Reading.{message_of, kind_of_pairs, message_by, kind_by}
-use Rattle.end_model.specs.declared.event.Addressee.TheVariants.{Stops, Nobody}
+use Rattle.control_message.specs.Reading.{message_of, message_by, kind_by}
+use Rattle.end_model.specs.declared.event.Addressee.TheVariants.{Opens, Recovers, Stops, Nobody}
 use Rattle.end_model.specs.Reading.{message_in, pairs_read, message_read, stopped, at_zero, zero_pairs, zero_read}
 use Rattle.frame_laws.specs.Codecs.{Codecs}
 
@@ -33,7 +34,11 @@ stopped_tells tunnel code error r h = by (eqb tunnel 0) refl h
 
 message_tells : (avps : List Avp) (m : Message) (r : ℕ) → zero_read avps (Ok (Known m)) ≡ Stops r → TellsStop m r
 unfolding zero_read
-message_tells avps (Sccrq o) r h = absurd cc
+message_tells avps (Sccrq o) r h = by (is_some o.recovery) h
+  where
+    by : (b : Bool) → cond b (Recovers o.tunnel) (Opens o.tunnel) ≡ Stops r → TellsStop (Sccrq o) r
+    by true is = absurd cc
+    by false is = absurd cc
 message_tells avps (Sccrp o) r h = absurd cc
 message_tells avps (Scccn response) r h = absurd cc
 message_tells avps (StopCcn tunnel code error) r h = stopped_tells tunnel code error r h

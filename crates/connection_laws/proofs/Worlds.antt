@@ -14,16 +14,20 @@ use Rattle.end_model.specs.declared.moves.Move.TheVariants as move
 use Rattle.end_model.specs.declared.out.Out.{Out}
 use Rattle.end_model.specs.declared.out.Out.TheVariants.{Send, Up, Gone, Drop, Cause}
 use Rattle.end_model.specs.declared.out.Origin.{Origin}
+use Rattle.end_model.specs.declared.out.Origin.TheVariants as origin_of
 use Rattle.world_model.specs.declared.packet.Packet.{Packet}
 use Rattle.end_names.specs.Names.{node_of}
 use Rattle.end_model.specs.Tunnels.{Tunnel}
 use Rattle.end_model.specs.End.{End, Stepped, plain_step}
-use Rattle.world_model.specs.World.{World, Node, Checkpoint, Sender, Deed, birth_in, birth_of, deed_of, with_node, with_birth_at, with_birth, is_born, moved, moved_all, packet_from, sent, shown, shown_all, given, after_step}
+use Rattle.world_model.specs.declared.standing.Standing.{Standing}
+use Rattle.world_model.specs.World.{World, Node, Checkpoint, Sender, Deed, standing_in, standing_of, no_standing, epoch_sent, birth_in, birth_of, deed_of, with_node, with_birth_at, with_birth, is_born, moved, moved_all, packet_from, sent, shown, shown_all, given, after_step}
 use Rattle.step_laws.specs.Letters.{Carries}
 use Rattle.step_laws.specs.Moves.{Chain}
-use Rattle.step_laws.specs.Steps.{AreKept, InChain, IsSent, IsDecline, IsOfMoves, IsChain, StepsAreChains}
+use Rattle.step_laws.specs.Steps.{AreKept, InChain, IsSent, IsDecline, IsOfMoves, IsChain, StepsAreChains, IsOfNoStart, StepsAreNoStarts}
 use Rattle.step_laws.specs.Ups.{reads_of_move, most_reads, ReadsAreFew}
+use Rattle.frame_laws.specs.Unrecovered.{IsMain}
 use Rattle.frame_laws.proofs.Chains.{same_role}
+use Rattle.frame_laws.proofs.Deeds.{all_before, all_behind}
 use Rattle.connection_laws.specs.Accounts.{no_account, account_from}
 use Rattle.connection_laws.specs.Facts.{Accounts, IsMade, EndOk, PacketOk, Comes, Within, NodeOk, Holds}
 use Rattle.connection_laws.proofs.Keeps.{MovesKeep}
@@ -31,7 +35,7 @@ use Rattle.connection_laws.proofs.Puts.{Extends}
 use Rattle.connection_laws.proofs.Later.{AllExtend, packet_later}
 use Rattle.connection_laws.proofs.Budget.{GivenBelow, acked_given}
 use Rattle.connection_laws.proofs.Steps.{reads_in, afterwards, from-append, deeds, Kept, chain_keeps, Ran}
-use Rattle.connection_laws.specs.Steps.{ClosingsAreKnown, DeclinesAreOfOpenings}
+use Rattle.connection_laws.specs.Steps.{ClosingsAreKnown, DeclinesAreOfOpenings, OpeningsAreAcceptable}
 pub use Rattle.connection_laws.specs.Steps.{end_at, BirthsStay, LineSteps}
 use Rattle.connection_laws.proofs.Sent.{carries_ok}
 use Rattle.connection_laws.proofs.Staying.{Stays, end_stays, unknown_stays}
@@ -43,20 +47,45 @@ use Rattle.connection_laws.proofs.Declining.{declined_ok}
 pub record SameEnds (w v : World) : Type 0 where
   pub ends : (k : ℕ) → end_at v k ≡ end_at w k
   pub packets : v.packets ≡ w.packets
+  pub standings : (k i : ℕ) → standing_of v k i ≡ standing_of w k i
 
 same_ends : (w : World) → SameEnds w w
-same_ends w = record { ends = λ k. refl; packets = refl }
+same_ends w = record { ends = λ k. refl; packets = refl; standings = λ k i. refl }
 
 ends_on : (u v w : World) → SameEnds u v → SameEnds v w → SameEnds u w
-ends_on u v w g h = record { ends = λ k. h.ends k ∙ g.ends k; packets = h.packets ∙ g.packets }
+ends_on u v w g h = record {
+  ends = λ k. h.ends k ∙ g.ends k;
+  packets = h.packets ∙ g.packets;
+  standings = λ k i. h.standings k i ∙ g.standings k i;
+}
 
-with_same : (w : World) (n : ℕ) (old new : Node) → at w.nodes n ≡ Some old → new.end ≡ old.end → SameEnds w (with_node w n new)
-with_same w n old new was same = record {
+-- a node changes, but not its standings
+with_standings : (w : World) (n : ℕ) (old new : Node) → at w.nodes n ≡ Some old → new.standings ≡ old.standings
+    → (k i : ℕ) → standing_of (with_node w n new) k i ≡ standing_of w k i
+unfolding standing_of
+with_standings w n old new was same k i = ⊎_elim
+    (λ (e : k ≡ n). rw (e, at_new w.nodes n new, was, same) refl)
+    (λ o. ap (λ (x : Option Node). standing_in x i) (at_other w.nodes n new k o))
+    (same_or_not k n)
+
+-- a new node has none
+pub added_standings : (w : World) (n : ℕ) (new : Node) → new.standings ≡ [] → ((k i : ℕ) → standing_of w k i ≡ no_standing)
+    → (k i : ℕ) → standing_of (with_node w n new) k i ≡ no_standing
+unfolding standing_of
+added_standings w n new empty had k i = ⊎_elim
+    (λ (e : k ≡ n). rw (e, at_new w.nodes n new, empty, at-none i) refl)
+    (λ o. ap (λ (x : Option Node). standing_in x i) (at_other w.nodes n new k o) ∙ had k i)
+    (same_or_not k n)
+
+with_same : (w : World) (n : ℕ) (old new : Node) → at w.nodes n ≡ Some old → new.end ≡ old.end → new.standings ≡ old.standings
+    → SameEnds w (with_node w n new)
+with_same w n old new was same standings = record {
   ends = λ k. ⊎_elim
       (λ (e : k ≡ n). rw (e, at_new w.nodes n new, was) (ap (λ x. Some x) same))
       (λ o. ap (λ x. option_map (λ (node : Node). node.end) x) (at_other w.nodes n new k o))
       (same_or_not k n);
   packets = refl;
+  standings = with_standings w n old new was standings;
 }
 
 birth_same : (w : World) (n session birth : ℕ) → SameEnds w (with_birth w n session birth)
@@ -65,49 +94,52 @@ birth_same w n session birth = by (at w.nodes n) refl
   where
     by : (o : Option Node) → at w.nodes n ≡ o → SameEnds w (with_birth_at w n session birth o)
     by None is = same_ends w
-    by (Some node) is = with_same w n node (record node { births = put node.births session birth }) is refl
+    by (Some node) is = with_same w n node (record node { births = put node.births session birth }) is refl refl
 
 born_same : (w : World) (n session : ℕ) → SameEnds w (is_born w n session)
-unfolding is_born
+unfolding is_born standing_of
 born_same w n session =
-    ends_on w (record w { born = _ }) _ (record { ends = λ k. refl; packets = refl }) (birth_same (record w { born = _ }) n session _)
+    ends_on w (record w { born = _ }) _ (record { ends = λ k. refl; packets = refl; standings = λ k i. refl })
+    (birth_same (record w { born = _ }) n session _)
 
--- births change no end
-move_same : (n : ℕ) (w : World) (m : Move) → SameEnds w (moved n w m)
+-- births change no end, and no standing
+move_same : (n : ℕ) (w : World) (m : Move) → IsMain m → SameEnds w (moved n w m)
 unfolding moved
-move_same n w (move.Opened m) = same_ends w
-move_same n w (move.Accepted m) = same_ends w
-move_same n w (move.Connected m) = same_ends w
-move_same n w (move.Confirmed m) = same_ends w
-move_same n w (move.Added m) = born_same w n m.session
-move_same n w (move.Requested m) = same_ends w
-move_same n w (move.Replied m) = birth_same w n m.session _
-move_same n w (move.FirstUp m) = same_ends w
-move_same n w (move.SecondUp m) = same_ends w
-move_same n w (move.Refused m) = same_ends w
-move_same n w (move.EndTold m) = same_ends w
-move_same n w (move.EndHeard m) = same_ends w
-move_same n w (move.EndSilent m) = same_ends w
-move_same n w (move.Declined m) = same_ends w
-move_same n w (move.Closed m) = same_ends w
-move_same n w (move.Rejected m) = same_ends w
-move_same n w (move.ClosedBy m) = same_ends w
-move_same n w (move.Cleared i booked) = same_ends w
-move_same n w (move.Greeted m) = same_ends w
-move_same n w (move.TookPlain m) = same_ends w
-move_same n w (move.NrRead m) = same_ends w
-move_same n w (move.LetGo m) = same_ends w
-move_same n w (move.Repeated m) = same_ends w
-move_same n w (move.Quiet i) = same_ends w
-move_same n w (move.Negotiated m) = same_ends w
-move_same n w (move.Counted m) = same_ends w
-move_same n w (move.FrameSent m) = same_ends w
-move_same n w (move.FrameUp m) = same_ends w
+move_same n w (move.Opened m) main = same_ends w
+move_same n w (move.Accepted m) main = same_ends w
+move_same n w (move.Connected m) main = same_ends w
+move_same n w (move.Confirmed m) main = same_ends w
+move_same n w (move.Added m) main = born_same w n m.session
+move_same n w (move.Requested m) main = same_ends w
+move_same n w (move.Replied m) main = birth_same w n m.session _
+move_same n w (move.FirstUp m) main = same_ends w
+move_same n w (move.SecondUp m) main = same_ends w
+move_same n w (move.Refused m) main = same_ends w
+move_same n w (move.EndTold m) main = same_ends w
+move_same n w (move.EndHeard m) main = same_ends w
+move_same n w (move.EndSilent m) main = same_ends w
+move_same n w (move.Declined m) main = same_ends w
+move_same n w (move.Closed m) main = same_ends w
+move_same n w (move.Rejected m) main = same_ends w
+move_same n w (move.ClosedBy m) main = same_ends w
+move_same n w (move.Cleared i booked) main = same_ends w
+move_same n w (move.Greeted m) main = same_ends w
+move_same n w (move.TookPlain m) main = same_ends w
+move_same n w (move.NrRead m) main = same_ends w
+move_same n w (move.LetGo m) main = same_ends w
+move_same n w (move.Repeated m) main = same_ends w
+move_same n w (move.Quiet i) main = same_ends w
+move_same n w (move.Negotiated m) main = same_ends w
+move_same n w (move.Counted m) main = same_ends w
+move_same n w (move.FrameSent m) main = same_ends w
+move_same n w (move.FrameUp m) main = same_ends w
+move_same n w m main = absurd main
 
-moves_same : (n : ℕ) (ms : List Move) (w : World) → SameEnds w (moved_all n ms w)
+moves_same : (n : ℕ) (ms : List Move) (w : World) → AllByRecursion IsMain ms → SameEnds w (moved_all n ms w)
 unfolding moved_all
-moves_same n [] w = same_ends w
-moves_same n (m ∷ ms) w = ends_on w (moved n w m) (moved_all n ms (moved n w m)) (move_same n w m) (moves_same n ms (moved n w m))
+moves_same n [] w mains = same_ends w
+moves_same n (m ∷ ms) w mains =
+    ends_on w (moved n w m) (moved_all n ms (moved n w m)) (move_same n w m mains.0) (moves_same n ms (moved n w m) mains.1)
 
 -- ---- births
 
@@ -163,9 +195,18 @@ shown_births n os w = record {
   births = λ k q. ap (λ (ns : List (ℕ × Node)). birth_in (at ns k) q) (shown_nodes n os w);
 }
 
+-- each is sent in the first epoch
+abbrev pub FirstOnly : World → Type 0
+FirstOnly w = (k i : ℕ) → standing_of w k i ≡ no_standing
+
+first_sent : (w : World) (n : ℕ) (o : Origin) → FirstOnly w → epoch_sent w n o ≡ 0
+first_sent w n (origin_of.Control o) only = ap (λ (x : Standing). x.epoch) (only n o.tunnel)
+first_sent w n (origin_of.Data session) only = refl
+first_sent w n (origin_of.Recovery tunnel number empty) only = refl
+
 -- what is to hold of the packets that are sent
 abbrev SendOk : (Packet → Type 0) → ℕ → Out → Type 0
-SendOk P n (Send peer bytes origin) = P (packet_from n (node_of peer) bytes origin)
+SendOk P n (Send peer bytes origin) = P (packet_from n (node_of peer) bytes origin 0)
 SendOk P n (Up session side frame) = Unit {0}
 SendOk P n (Gone session) = Unit {0}
 SendOk P n (Drop x) = Unit {0}
@@ -179,16 +220,21 @@ pub all_map : {X : Type 0} (P Q : X → Type 0) → ((x : X) → P x → Q x) �
 all_map P Q f [] h = tt
 all_map P Q f (x ∷ xs) h = (f x h.0, all_map P Q f xs h.1)
 
-shown_packets : (P : Packet → Type 0) (n : ℕ) (os : List Out) (w : World) → AllByRecursion (SendOk P n) os → AllByRecursion P w.packets
+shown_packets : (P : Packet → Type 0) (n : ℕ) (os : List Out) (w : World) → FirstOnly w → AllByRecursion (SendOk P n) os → AllByRecursion P w.packets
     → AllByRecursion P (shown_all n os w).packets
-unfolding shown_all shown sent
-shown_packets P n [] w ok had = had
-shown_packets P n (Send peer bytes origin ∷ os) w ok had =
-    shown_packets P n os (sent w n (node_of peer) bytes origin) ok.1 (all_push P w.packets _ had ok.0)
-shown_packets P n (Up session side frame ∷ os) w ok had = shown_packets P n os w ok.1 had
-shown_packets P n (Gone session ∷ os) w ok had = shown_packets P n os w ok.1 had
-shown_packets P n (Drop x ∷ os) w ok had = shown_packets P n os w ok.1 had
-shown_packets P n (Cause x ∷ os) w ok had = shown_packets P n os w ok.1 had
+unfolding shown_all shown sent standing_of
+shown_packets P n [] w only ok had = had
+shown_packets P n (Send peer bytes origin ∷ os) w only ok had =
+    shown_packets P n os (sent w n (node_of peer) bytes origin) only ok.1
+    (all_push P w.packets _ had (subst (λ (k : ℕ). P (packet_from n (node_of peer) bytes origin k)) (sym (first_sent w n origin only)) ok.0))
+shown_packets P n (Up session side frame ∷ os) w only ok had = shown_packets P n os w only ok.1 had
+shown_packets P n (Gone session ∷ os) w only ok had = shown_packets P n os w only ok.1 had
+shown_packets P n (Drop x ∷ os) w only ok had = shown_packets P n os w only ok.1 had
+shown_packets P n (Cause x ∷ os) w only ok had = shown_packets P n os w only ok.1 had
+
+shown_standings : (n : ℕ) (os : List Out) (w : World) → FirstOnly w → FirstOnly (shown_all n os w)
+unfolding standing_of
+shown_standings n os w only k i = ap (λ (ns : List (ℕ × Node)). standing_in (at ns k) i) (shown_nodes n os w) ∙ only k i
 
 -- ---- other nodes
 
@@ -239,6 +285,8 @@ pub record Laws : Type 0 where
   pub reads : ReadsAreFew
   pub closings : ClosingsAreKnown
   pub declines : DeclinesAreOfOpenings
+  pub acceptable : OpeningsAreAcceptable
+  pub starts : StepsAreNoStarts
 
 module _ (laws : Laws) (number : ℕ) (w : World) (accs : Accounts) (holds : Holds w accs) (most : ℕ) (had : GivenBelow accs most)
     (room : most + 24576 < 2 ^ 64) (n : ℕ) (old : Node) (was : at w.nodes n ≡ Some old) (clock : ℕ) (access : Option Access) (checkpoint : Checkpoint) (ev : Event) (sender : Option Sender)
@@ -286,21 +334,24 @@ module _ (laws : Laws) (number : ℕ) (w : World) (accs : Accounts) (holds : Hol
   one_read = let reads = laws.reads old.end moment block ev in let few = few_reads ev in omega arith
 
   -- the first moves of the step, up to an end
-  first_ran : (made : List Move) (y : End) → Chain moment ev old.end made y → length (reads_in made) ≤ 1
+  first_ran : (made : List Move) (y : End) → AllByRecursion IsOfNoStart made → Chain moment ev old.end made y → length (reads_in made) ≤ 1
       → Ran accs (afterwards accs (did made)) n old.end y sender moment ev (λ m. deed_of v number n old.end.role sender m) made (acked_by made) (most + 16384)
-  first_ran made y leads reads =
-      chain_keeps laws.moves laws.closings laws.declines v number n old.end.role sender moment ev made accs old.end y most (most + 16384)
-      leads refl begun
+  first_ran made y starts leads reads =
+      chain_keeps laws.moves laws.closings laws.declines laws.acceptable v number n old.end.role sender moment ev made accs old.end y most (most + 16384)
+      starts leads refl begun
       (acked_given accs n old.end most ok.0 had) (λ k j. (let le = had k j in omega arith)) (omega (arith, reads)) (omega (arith, room))
 
   ran : Ran accs ms n old.end s.end sender moment ev (λ m. deed_of v number n old.end.role sender m) s.moves (acked_by s.moves) (most + 16384)
-  ran = first_ran s.moves s.end chain.chain one_read
+  ran = first_ran s.moves s.end (laws.starts old.end moment block ev) chain.chain one_read
 
   kept : Kept accs ms n s.end sender ev (acked_by s.moves) (most + 16384)
   kept = ran.kept
 
   -- what holds at an end of its chain, and what the moves behind it leave of the accounts as they are there
   module _ (amid : InChain moment ev old.end s.moves s.end) where
+    started : AllByRecursion IsOfNoStart (amid.made ++ amid.rest)
+    started = subst (AllByRecursion IsOfNoStart) amid.moves_are (laws.starts old.end moment block ev)
+
     abbrev so_far : Accounts
     so_far = afterwards accs (did amid.made)
 
@@ -309,13 +360,14 @@ module _ (laws : Laws) (number : ℕ) (w : World) (accs : Accounts) (holds : Hol
         ∙ length-append (reads_in amid.made) (reads_in amid.rest)
 
     made_ran : Ran accs so_far n old.end amid.end sender moment ev (λ m. deed_of v number n old.end.role sender m) amid.made (acked_by amid.made) (most + 16384)
-    made_ran = first_ran amid.made amid.end amid.comes (omega (arith, reads_add, one_read))
+    made_ran = first_ran amid.made amid.end (all_before IsOfNoStart amid.made amid.rest started) amid.comes (omega (arith, reads_add, one_read))
 
     rest_ran : Ran so_far (afterwards so_far (did amid.rest)) n amid.end s.end sender moment ev (λ m. deed_of v number n old.end.role sender m) amid.rest
         (acked_by amid.made + 8192 * length (reads_in amid.rest)) (most + 16384)
     rest_ran =
-        chain_keeps laws.moves laws.closings laws.declines v number n old.end.role sender moment ev amid.rest so_far amid.end s.end
-        (acked_by amid.made) (most + 16384) amid.goes (same_role moment ev old.end amid.end amid.made amid.comes) made_ran.kept.within
+        chain_keeps laws.moves laws.closings laws.declines laws.acceptable v number n old.end.role sender moment ev amid.rest so_far amid.end s.end
+        (acked_by amid.made) (most + 16384) (all_behind IsOfNoStart amid.made amid.rest started) amid.goes
+        (same_role moment ev old.end amid.end amid.made amid.comes) made_ran.kept.within
         made_ran.kept.below made_ran.kept.given (omega (arith, reads_add, one_read)) (omega (arith, room))
 
     did_all : did s.moves ≡ did amid.made ++ did amid.rest
@@ -329,9 +381,9 @@ module _ (laws : Laws) (number : ℕ) (w : World) (accs : Accounts) (holds : Hol
 
     -- what is sent there stays so
     sent_ok : (peer id : ℕ) (tunnel : Tunnel) → at amid.end.tunnels id ≡ Some tunnel → peer ≡ tunnel.control.peer → (bytes : List ℕ) (o : Origin)
-        → Carries tunnel amid.made bytes o → PacketOk ms (packet_from n (node_of peer) bytes o)
+        → Carries tunnel amid.made bytes o → PacketOk ms (packet_from n (node_of peer) bytes o 0)
     sent_ok peer id tunnel there peer_is bytes o carries =
-        packet_later so_far ms grown_on (packet_from n (node_of peer) bytes o)
+        packet_later so_far ms grown_on (packet_from n (node_of peer) bytes o 0)
         (carries_ok so_far n amid.end sender ev (most + 16384) made_ran.kept.within made_ran.kept.given (omega (arith, room)) id tunnel there peer peer_is bytes
         amid.made made_ran.frames o carries)
 
@@ -356,7 +408,11 @@ module _ (laws : Laws) (number : ℕ) (w : World) (accs : Accounts) (holds : Hol
       (same_or_not k n)
 
   same : SameEnds base v
-  same = moves_same n s.moves base
+  same = moves_same n s.moves base ran.main
+
+  -- the standings are as they were
+  first_only : FirstOnly v
+  first_only k i = same.standings k i ∙ with_standings w n old ended was refl k i ∙ holds.standings k i
 
   node_ok : (k : ℕ) → NodeOk ms k (at v.nodes k)
   node_ok k = of_end ms k (at v.nodes k) (subst (NodeEndOk ms k) (sym (same.ends k)) (base_ok k))
@@ -366,9 +422,11 @@ module _ (laws : Laws) (number : ℕ) (w : World) (accs : Accounts) (holds : Hol
     holds = record {
       accounts = kept.within.accounts;
       nodes = λ k. subst (λ ns. NodeOk ms k (at ns k)) (sym (shown_nodes n s.outputs v)) (node_ok k);
-      packets = shown_packets (PacketOk ms) n s.outputs v (all_map (IsOfMoves moment ev old.end s.moves s.end) (SendOk (PacketOk ms) n) send_ok s.outputs chain.outputs)
+      packets = shown_packets (PacketOk ms) n s.outputs v first_only
+          (all_map (IsOfMoves moment ev old.end s.moves s.end) (SendOk (PacketOk ms) n) send_ok s.outputs chain.outputs)
           (subst (λ ps. AllByRecursion (PacketOk ms) ps) (sym same.packets)
           (all_map (PacketOk accs) (PacketOk ms) (λ p h. packet_later accs ms kept.grown p h) w.packets holds.packets));
+      standings = shown_standings n s.outputs v first_only;
     };
     given = kept.given;
   }

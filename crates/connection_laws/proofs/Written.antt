@@ -1,10 +1,8 @@
 -- What is given to a channel is written, and ids are drawn in order.
-use Rattle.std.proofs.Common.{Option, Some, None, IfSome, List, ◌∷◌, ◌++◌, ◌≡◌, ℕ, ◌+◌, ◌-◌, ◌<◌, ◌≤◌, Bool, true, false, cond, length, refl, sym, Ok, Err, arith}
-use Rattle.std.proofs.lemmas.Bool.{ltb-false}
+use Rattle.std.proofs.Common.{Option, Some, None, IfSome, List, ◌∷◌, ◌++◌, ◌≡◌, ℕ, ◌<◌, ◌≤◌, length, refl, arith}
 use Rattle.std.proofs.lemmas.List.{length-append}
 use Rattle.std.proofs.lemmas.Fmt.{length-decimal-le}
 use Rattle.std.specs.Fmt.{decimal}
-use Rattle.std.specs.Prelude.{nat_lt}
 use Rattle.md5.proofs.StandardFacts.{length-md5}
 use Rattle.step_laws.specs.Moves.{Asks, Responds}
 use Rattle.frame_laws.specs.Written.{IsWritten, IsWrittenOpening}

@@ -73,6 +73,14 @@ about (move.Negotiated m) = m.tunnel
 about (move.Counted m) = m.tunnel
 about (move.FrameSent m) = m.tunnel
 about (move.FrameUp m) = m.tunnel
+about (move.Restored m) = m.tunnel.local
+about (move.Forgot m) = m.tunnel
+about (move.Froze m) = m.tunnel
+about (move.ResetAttempting m) = m.tunnel
+about (move.ResetAnswering m) = m.tunnel
+about (move.RecoveryWentOn i) = i
+about (move.RecoveryEnded i) = i
+about (move.Ignored i) = i
 
 -- the letters that a deed gives
 abbrev pub gives : Deed → List Letter
@@ -114,6 +122,8 @@ entered_by d (move.Negotiated m) a = a
 entered_by d (move.Counted m) a = a
 entered_by d (move.FrameSent m) a = a
 entered_by d (move.FrameUp m) a = a
+-- accounts are told of runs in which no move is one of a recovery
+entered_by d m a = a
 
 abbrev pub entered : Deed → Account → Account
 entered d a = entered_by d d.move a

@@ -7,6 +7,7 @@ use Rattle.recv_window.specs.Window.{on_wire, class_of, true_class}
 use Rattle.control_channel.specs.Numbers.{count_acked}
 use Rattle.schedule_text.specs.declared.line.Line.{Line}
 use Rattle.schedule_text.specs.Grammar.{AreLines}
+use Rattle.end_model.specs.declared.out.Origin.{Origin}
 use Rattle.end_model.specs.declared.out.Origin.TheVariants as origin
 use Rattle.end_model.specs.declared.out.ControlOrigin.{ControlOrigin}
 use Rattle.world_model.specs.declared.packet.Packet.{Packet}
@@ -14,7 +15,7 @@ use Rattle.end_model.specs.declared.tunnel.Control.{Control}
 use Rattle.end_names.specs.Names.{address_of}
 use Rattle.end_model.specs.Tunnels.{Tunnel}
 use Rattle.end_model.specs.End.{reached}
-use Rattle.world_model.specs.World.{Node, Sender, Deed, too_old}
+use Rattle.world_model.specs.World.{Node, Deed, too_old}
 use Rattle.world_model.specs.Run.{Run, run}
 use Rattle.step_laws.specs.Calm.{AreCalm}
 use Rattle.connection_laws.specs.Accounts.{Taken, account_of}
@@ -26,9 +27,17 @@ use Rattle.connection_laws.specs.Facts.{IsCopy, IsRefusal, AreTaken, Holds}
 abbrev pub IsCopied : List Deed → Packet → Type 0
 IsCopied ds p = (o : ControlOrigin) → p.origin ≡ origin.Control o → IsCopy (account_of ds p.from o.tunnel) p o ⊎ IsRefusal (account_of ds) p o
 
+-- no recovery tunnel sent it
+abbrev pub IsOfNoRecovery : Origin → Type 0
+IsOfNoRecovery (origin.Control o) = Unit {0}
+IsOfNoRecovery (origin.Data session) = Unit {0}
+IsOfNoRecovery (origin.Recovery tunnel number empty) = ⊥
+
 pub record LettersAreCarried (r : Run) : Type 0 where
   -- each control message is a copy of the letter at its number in its sender's list, or of none
   pub copies : AllByRecursion (IsCopied r.done) r.world.packets
+  -- and there are no other ones
+  pub none_recovers : AllByRecursion (λ (p : Packet). IsOfNoRecovery p.origin) r.world.packets
   -- each tunnel took the first letters of its partner's list, in order and each once
   pub taken : (n i : ℕ) → AreTaken (account_of r.done) (account_of r.done n i)
 
@@ -84,7 +93,7 @@ pub record IsRead (c : Control) (o : ControlOrigin) : Type 0 where
 abbrev pub NumbersAreRead : Run → Type 0
 NumbersAreRead r =
     AllByRecursion (λ (p : Packet). (o : ControlOrigin) → p.origin ≡ origin.Control o → (node : Node) → at r.world.nodes p.to ≡ Some node → (c : Control)
-    → reached node.end (address_of p.from) p.bytes ≡ Some c → too_old o (Some c) ≡ None → IsRead c o) r.world.packets
+    → reached node.end (address_of p.from) p.bytes ≡ Some c → too_old p.epoch o r.world p.to (Some c) ≡ None → IsRead c o) r.world.packets
 
 -- ---- in the run of each list of lines of the grammar in which no node crashes, is to stop, or starts; letters are counted in 64 bits,
 -- and a line gives a tunnel 16,384 of them at most

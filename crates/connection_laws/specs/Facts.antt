@@ -31,7 +31,7 @@ use Rattle.end_model.specs.Secrets.{uncovered_datagram}
 use Rattle.end_model.specs.Tunnels.{Tunnel}
 use Rattle.end_model.specs.Channels.{letter_as}
 use Rattle.end_model.specs.End.{End}
-use Rattle.world_model.specs.World.{World, Node, Sender, sender_of}
+use Rattle.world_model.specs.World.{World, Node, Sender, standing_of, no_standing, sender_of}
 use Rattle.step_laws.specs.Letters.{Letter}
 use Rattle.step_laws.specs.Moves.{IsFor}
 use Rattle.step_laws.specs.Steps.{AreKept}
@@ -319,6 +319,8 @@ pub record LiveOk (accs : Accounts) (n i : ℕ) (a : Account) (t : Tunnel) : Typ
   pub calls : (s : ℕ) (c : Call) → at t.calls s ≡ Some c → c.remote < 65536
   -- no session stands twice
   pub order : Ascends t.calls
+  -- nobody recovers it
+  pub recovery : t.recovery ≡ None
 
 -- ---- ends
 
@@ -388,9 +390,13 @@ pub record IsData (bytes : List ℕ) : Type 0 where
 abbrev pub OriginOk : Accounts → Packet → Origin → Type 0
 OriginOk accs p (origin.Control o) = IsCopy (accs p.from o.tunnel) p o ⊎ IsRefusal accs p o
 OriginOk accs p (origin.Data session) = IsData p.bytes
+-- none is of a recovery
+OriginOk accs p (origin.Recovery tunnel number empty) = ⊥
 
 pub record PacketOk (accs : Accounts) (p : Packet) : Type 0 where
   pub from : p.from < 256
+  -- no tunnel enters a second epoch
+  pub epoch : p.epoch ≡ 0
   pub sent : OriginOk accs p p.origin
 
 -- ---- what comes in a step
@@ -406,6 +412,7 @@ AreNear accs n e p bytes (origin.Control o) =
     (i : ℕ) (t : Tunnel) (h : Header) → at e.tunnels i ≡ Some t → t.control.peer ≡ address_of p.from → header_of bytes ≡ Ok h
     → IsFor h (body_of bytes h) t.control → IsNear (accs n i) t o
 AreNear accs n e p bytes (origin.Data session) = Unit {0}
+AreNear accs n e p bytes (origin.Recovery tunnel number empty) = Unit {0}
 
 -- the datagram of a step is a packet, as the end reads it with some secret, or with none
 pub record IsPacket (accs : Accounts) (n : ℕ) (e : End) (sender : Option Sender) (peer : ℕ) (bytes : List ℕ) : Type 0 where
@@ -449,3 +456,5 @@ pub record Holds (w : World) (accs : Accounts) : Type 0 where
   pub accounts : (n i : ℕ) → AccountOk accs n i (accs n i)
   pub nodes : (n : ℕ) → NodeOk accs n (at w.nodes n)
   pub packets : AllByRecursion (PacketOk accs) w.packets
+  -- no tunnel enters a second epoch, or loses its channel
+  pub standings : (n i : ℕ) → standing_of w n i ≡ no_standing

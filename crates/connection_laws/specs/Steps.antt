@@ -14,7 +14,7 @@ use Rattle.end_model.specs.declared.moves.Declined.{Declined}
 use Rattle.end_names.specs.Names.{node_of}
 use Rattle.end_model.specs.declared.tunnel.Control.{Control}
 use Rattle.end_names.specs.declared.role.Role.{Role}
-use Rattle.end_model.specs.Reading.{tunnel_fault_in, message_in, CallFault, TunnelFault}
+use Rattle.end_model.specs.Reading.{tunnel_fault_in, CallFault, TunnelFault}
 use Rattle.end_model.specs.Tunnels.{Tunnel}
 use Rattle.end_model.specs.Moments.{is_closed}
 use Rattle.end_model.specs.End.{End, plain_step}
@@ -25,6 +25,7 @@ use Rattle.step_laws.specs.Calm.{IsCalm, WorldIsCalm}
 use Rattle.step_laws.specs.Letters.{Letter}
 use Rattle.step_laws.specs.Moves.{Does, Came, CameIn, Hears, IsNext, HearsNext, InTunnel, IsFaulty, Closes, ClosesBy, Declines}
 use Rattle.frame_laws.specs.Plain.{AreAlike, IsReadAs, number_fault}
+use Rattle.frame_laws.specs.Unrecovered.{IsMain}
 use Rattle.connection_laws.specs.Accounts.{Opener, account_of, after_deed}
 use Rattle.connection_laws.specs.Facts.{Accounts, IsNoOpening, IsNoStop, IsStopCcn, Within, Holds}
 
@@ -53,6 +54,8 @@ pub record IsMoved (accs : Accounts) (n : ℕ) (e x : End) (sender : Option Send
   pub numbers : HasNumbers e
   pub counts : HasCounts e
   pub does : Does e moment ev m x
+  -- it isn't one of a recovery
+  pub main : IsMain m
   pub deed : IsDeed d n e.role sender m
 
 -- after it all of it holds again

@@ -3,7 +3,7 @@
 #![tactic(auto)]
 
 ghost use Rattle.frame_laws.specs.Codecs.{Codecs};
-ghost use Rattle.step_laws.specs.Steps.{StepsAreChains};
+ghost use Rattle.step_laws.specs.Steps.{StepsAreChains, StepsAreNoStarts};
 ghost use Rattle.step_laws.specs.Ups.{ReadsAreFew};
 ghost use Rattle.connection_laws.specs.Channels.{AcksOfRuns, HoldsInRuns, LettersOfRuns, NumbersOfRuns};
 ghost use Rattle.connection_laws.specs.Steps.{ClosingsAreKnown, DeclinesAreOfOpenings, LettersAreHeard, LinesGoOn, MovesKeep, NextIsHeard, FaultsAreOfRequests, NoneIsFaultyInTunnel, OpeningsAreAcceptable, PlainIsHeard, RunsBegin, StopIsHeard};
@@ -13,11 +13,13 @@ ghost use Rattle.recv_window.specs.Window.{ClassIsTrue};
 fn laws_below()
     ensures codecs { Codecs }
     ensures chains { StepsAreChains }
+    ensures starts { StepsAreNoStarts }
     ensures reads { ReadsAreFew }
     ensures classes { ClassIsTrue }
 {
     frame_laws::written_is_read_again();
     step_laws::steps_are_chains();
+    step_laws::steps_are_no_starts();
     step_laws::reads_are_few();
     recv_window::the_class_is_true();
 }
@@ -36,7 +38,7 @@ pub fn facts_hold()
 /// tunnel gives goes to the tunnel that it knows; what is declined is the SCCRQ of a tunnel of the sender's; no opening that is
 /// heard has another version, wants a recovery or has a challenge, and no message has a fault; and each line of a run that fits,
 /// and by which no node crashes, is to stop, or starts, goes on from where it holds: it does nothing, adds a node, or makes a step
-/// whose moves are made where all of it holds.
+/// whose moves are made where all of it holds, and none of them is one of a recovery.
 pub fn steps_keep()
     ensures moves { MovesKeep }
     ensures heard { NextIsHeard }
@@ -56,8 +58,8 @@ pub fn steps_keep()
 
 /// Over every list of fewer than 2^47 lines of the grammar in which no node crashes, is to stop, or starts: each control message
 /// is a copy of the letter at its number in its sender's list, or of none, and goes to its sender's peer, or it is a StopCCN of no
-/// tunnel, which declines an opening; and what a tunnel took, as long as it wasn't closed, are the first letters of the list of its
-/// partner, the one tunnel that it has learned, in order and each once. What it did with each
+/// tunnel, which declines an opening; no recovery tunnel sends one; and what a tunnel took, as long as it wasn't closed, are the
+/// first letters of the list of its partner, the one tunnel that it has learned, in order and each once. What it did with each
 /// is what the letter says: it learned the id and the window that an opening tells, it made a call for the request that names
 /// the other end's, and a call came up or ended that the letter's header names; or a call ended by a CDN whose header names
 /// none, of which no more is said. Of a letter that it took plainly, by which it did nothing else, nothing is said.

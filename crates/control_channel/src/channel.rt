@@ -1,6 +1,6 @@
 //! The channel.
 
-ghost use Rattle.std.specs.Prelude.{◌≡◌, ◌<◌, ◌≤◌, ◌↔◌, ℕ, length, OnOk, OnErr, IsOk, IfSome};
+ghost use Rattle.std.specs.Prelude.{◌≡◌, ◌<◌, ◌≤◌, ◌↔◌, ℕ, length, IfOk, OnOk, OnErr, IsOk, IfSome};
 ghost use Rattle.send_window.specs.Window.{next_given, next_unsent, Holds, HoldsRepeated};
 ghost use Rattle.send_window.specs.Outbox.{letter_at};
 ghost use Rattle.recv_window.specs.Window.{on_wire};
@@ -224,5 +224,17 @@ impl Channel {
         ensures { result ≡ self.now.frozen }
     {
         self.numbers.is_frozen()
+    }
+
+    /// A copy, with as much room: a step is planned on it, and where memory is wanting, nothing has changed. It takes a time in
+    /// proportion to the bytes of the letters.
+    pub fn copy(&self, alloc: Global) -> Result<Channel, NoMemory>
+        ensures { IfOk result (λ copy. copy ≡ self.now) }
+    {
+        let letters = self.letters.copy(alloc)?;
+        Ok(Channel {
+            letters,
+            numbers: self.numbers,
+        })
     }
 }

@@ -9,10 +9,12 @@ use Rattle.id_table.specs.Ids.{put, without}
 use Rattle.id_table.specs.Order.{IsAbove, Ascends, lower, less_is}
 use Rattle.wire_base.specs.declared.letter.Letter.{Letter}
 use Rattle.end_model.specs.declared.tunnel.Call.{Call}
-use Rattle.end_model.specs.Tunnels.{Tunnel, Turn}
+use Rattle.end_model.specs.declared.tunnel.Mode.{Mode}
+use Rattle.end_model.specs.Tunnels.{Tunnel, Turn, Recovering, mode_of}
+use Rattle.end_model.specs.Recovering.{RecoveryTurn}
 use Rattle.end_model.specs.Events.{changed_at, with_calls, tunnel_after}
 use Rattle.end_model.specs.End.{End, tunnels_after, after_turn}
-use Rattle.tunnel_timers.specs.Due.{earlier, earliest, channel_due, call_due, calls_due, tunnel_due, tunnels_due, end_due, IsNoLater, left_due, changed_due}
+use Rattle.tunnel_timers.specs.Due.{earlier, earliest, channel_due, call_due, calls_due, due_of, recovery_due, tunnel_due, tunnels_due, end_due, IsNoLater, left_due, main_changed_due, changed_due}
 use Rattle.due_laws.specs.Ticks.{KeepBounds}
 use Rattle.tunnel_timers.specs.Moments.{earlier_same, earlier_on, bound_earlier, bound_both, below_bound, bound_holds, found_holds, put_holds, without_holds}
 
@@ -58,14 +60,15 @@ pub puts_move : (tunnels : List (ℕ × Tunnel)) → Ascends tunnels → (i : �
     → tunnels_due (put tunnels i t) ≡ earlier (tunnel_due t) (tunnels_due (without tunnels i))
 puts_move tunnels ascend i t = put_moves (λ x. tunnel_due x.1) tunnels ascend i t
 
-pub turns_move : (e : End) → Ascends e.tunnels → (i : ℕ) (letters : List Letter) (calls : List (ℕ × Call)) (t : Turn)
-    → end_due (after_turn e i letters calls t).end ≡ (if t.cleared then tunnels_due (without e.tunnels i) else earlier (tunnel_due (tunnel_after t letters calls)) (tunnels_due (without e.tunnels i)))
+pub turns_move : (e : End) → Ascends e.tunnels → (i : ℕ) (letters : List Letter) (calls : List (ℕ × Call)) (recovery : Option Recovering) (t : Turn)
+    → end_due (after_turn e i letters calls recovery t).end
+    ≡ (if t.cleared then tunnels_due (without e.tunnels i) else earlier (tunnel_due (tunnel_after t letters calls recovery)) (tunnels_due (without e.tunnels i)))
 unfolding after_turn
-turns_move e ascend i letters calls t = by t.cleared
+turns_move e ascend i letters calls recovery t = by t.cleared
   where
-    by : (b : Bool) → tunnels_due (tunnels_after e.tunnels i b (tunnel_after t letters calls)) ≡ (if b then tunnels_due (without e.tunnels i) else earlier (tunnel_due (tunnel_after t letters calls)) (tunnels_due (without e.tunnels i)))
+    by : (b : Bool) → tunnels_due (tunnels_after e.tunnels i b (tunnel_after t letters calls recovery)) ≡ (if b then tunnels_due (without e.tunnels i) else earlier (tunnel_due (tunnel_after t letters calls recovery)) (tunnels_due (without e.tunnels i)))
     by true = refl
-    by false = puts_move e.tunnels ascend i (tunnel_after t letters calls)
+    by false = puts_move e.tunnels ascend i (tunnel_after t letters calls recovery)
 
 -- ---- bounds
 
@@ -83,20 +86,34 @@ module _ (bound : ℕ) where
       let both = bound_both bound (left_due c.0 c.1) (earliest (λ c. left_due c.0 c.1) cs) new in
       calls_bound cs (changed_at calls c.0 c.1) both.1 (changed_by c.0 c.1 calls both.0 all)
 
-  turn_bound : (r : Turn) (letters : List Letter) (calls : List (ℕ × Call)) → IsNoLater bound (changed_due r) → IsNoLater bound (calls_due calls)
-      → IsNoLater bound (tunnel_due (tunnel_after r letters calls))
-  turn_bound r letters calls new all =
-      let both = bound_both bound (channel_due r.control) (earliest (λ c. left_due c.0 c.1) r.changed) new in
-      bound_earlier bound (channel_due r.control) (calls_due (with_calls r.changed calls)) both.0 (calls_bound r.changed calls both.1 all)
+  main_bound : (m : Mode) (t : Turn) (calls : List (ℕ × Call)) → IsNoLater bound (main_changed_due m t) → IsNoLater bound (calls_due calls)
+      → IsNoLater bound (due_of m t.control (with_calls t.changed calls))
+  main_bound m t calls new all =
+      let both = bound_both bound (channel_due m t.control) (earliest (λ c. left_due c.0 c.1) t.changed) new in
+      bound_earlier bound (channel_due m t.control) (calls_due (with_calls t.changed calls)) both.0 (calls_bound t.changed calls both.1 all)
 
-  after_bound : (e : End) → IsNoLater bound (end_due e) → (i : ℕ) (letters : List Letter) (calls : List (ℕ × Call)) (r : Turn)
-      → IsNoLater bound (tunnel_due (tunnel_after r letters calls)) → IsNoLater bound (end_due (after_turn e i letters calls r).end)
+  turn_bound : (r : RecoveryTurn) (letters : List Letter) (calls : List (ℕ × Call)) → IsNoLater bound (changed_due r) → IsNoLater bound (calls_due calls)
+      → IsNoLater bound (tunnel_due (tunnel_after r.turn letters calls r.recovery))
+  turn_bound r letters calls new all =
+      let m = mode_of r.recovery in
+      let both = bound_both bound (main_changed_due m r.turn) (recovery_due r.recovery) new in
+      bound_earlier bound (due_of m r.turn.control (with_calls r.turn.changed calls)) (recovery_due r.recovery) (main_bound m r.turn calls both.0 all) both.1
+
+  after_bound : (e : End) → IsNoLater bound (end_due e) → (i : ℕ) (letters : List Letter) (calls : List (ℕ × Call)) (r : RecoveryTurn)
+      → IsNoLater bound (tunnel_due (tunnel_after r.turn letters calls r.recovery)) → IsNoLater bound (end_due (after_turn e i letters calls r.recovery r.turn).end)
   unfolding after_turn
-  after_bound e all i letters calls r new = by r.cleared
+  after_bound e all i letters calls r new = by r.turn.cleared
     where
-      by : (b : Bool) → IsNoLater bound (tunnels_due (tunnels_after e.tunnels i b (tunnel_after r letters calls)))
+      by : (b : Bool) → IsNoLater bound (tunnels_due (tunnels_after e.tunnels i b (tunnel_after r.turn letters calls r.recovery)))
       by true = without_holds (IsNoLater bound) (bound_holds bound) (λ x. tunnel_due x.1) e.tunnels i all
-      by false = put_holds (IsNoLater bound) (bound_holds bound) (λ x. tunnel_due x.1) e.tunnels i (tunnel_after r letters calls) all new
+      by false = put_holds (IsNoLater bound) (bound_holds bound) (λ x. tunnel_due x.1) e.tunnels i (tunnel_after r.turn letters calls r.recovery) all new
+
+  -- those of a tunnel that was there
+  calls_bounded : (t : Tunnel) → IsNoLater bound (tunnel_due t) → IsNoLater bound (calls_due t.calls)
+  calls_bounded t h =
+      let m = mode_of t.recovery in
+      let main = (bound_both bound (due_of m t.control t.calls) (recovery_due t.recovery) h).0 in
+      (bound_both bound (channel_due m t.control) (calls_due t.calls) main).1
 
   no_calls : IsNoLater bound (calls_due [])
   unfolding earliest
@@ -107,7 +124,7 @@ module _ (bound : ℕ) where
     early = λ m lt. below_bound bound m (end_due e) all lt;
     turn = λ i t there r new. (
         let one = found_holds (IsNoLater bound) (bound_holds bound) (λ x. tunnel_due x.1) e.tunnels i t there all in
-        after_bound e all i t.letters t.calls r (turn_bound r t.letters t.calls new (bound_both bound (channel_due t.control) (calls_due t.calls) one).1)
+        after_bound e all i t.letters t.calls r (turn_bound r t.letters t.calls new (calls_bounded t one))
         );
     new = λ i r new. after_bound e all i [] [] r (turn_bound r [] [] new no_calls);
   }

@@ -1,13 +1,15 @@
 -- What a tick does in a turn is behind what was done in it before.
 use Rattle.std.proofs.Common.{◌≡◌, ℕ, zero, suc, ◌+◌, ◌≤◌, Bool, true, false, List, [], ◌∷◌, Option, Some, None, refl, sym, ap, ◌∙◌, arith, length-append}
 use Rattle.std.proofs.lemmas.Bool.{true≢false}
-use Rattle.std.specs.Prelude.{◌||◌, if◌then◌else◌}
+use Rattle.std.specs.Prelude.{◌||◌, not, if◌then◌else◌}
 use Rattle.id_table.specs.Ids.{at, ids_of}
 use Rattle.wire_base.specs.declared.letter.Letter.{Letter}
 use Rattle.wire_base.specs.declared.cause.Cause.{Cause as CauseOf}
 use Rattle.wire_base.specs.declared.cause.Cause.TheVariants as cause
 use Rattle.send_window.specs.declared.window.Tick.{Tick as Due}
 use Rattle.send_window.specs.declared.window.Tick.TheVariants as tick
+use Rattle.control_channel.specs.Channel.{answer_to_tick as channel_answer}
+use Rattle.recovery_tunnel.specs.Connections.{ControlConnection, is_lost}
 use Rattle.call_fsm.specs.declared.table.CallState.{CallState}
 use Rattle.call_fsm.specs.declared.table.CallState.TheVariants.{Idle, WaitTunnel, WaitReply, WaitConnect, Established}
 use Rattle.call_fsm.specs.declared.table.CallEvent.TheVariants.{Close}
@@ -25,13 +27,16 @@ use Rattle.end_model.specs.declared.moves.Move.{Move}
 use Rattle.session_looks.specs.declared.look.CellChange.{CellChange}
 use Rattle.end_model.specs.Calls.{counted, counted_all, call_row, row_for, is_up, is_told, is_clean_up}
 use Rattle.end_model.specs.Channels.{has_room}
-use Rattle.end_model.specs.Tunnels.{Drawing, Ground, Turn}
+use Rattle.end_model.specs.Tunnels.{Drawing, Ground, Turn, Recovering, connection_of, is_current}
 use Rattle.end_model.specs.Turn.{with_output, with_move, with_change, with_call, with_looks_of, drops, ends_call, ends_all}
 use Rattle.end_model.specs.Sending.{gives, sends_letter, sends_now, lets_go, goes_by, lets_all_go, repeats, acknowledges, acknowledged_after, settles}
 use Rattle.end_model.specs.Closing.{end_silent, end_told, ends_by}
 use Rattle.end_model.specs.Frames.{sends_frame, counts, carried}
 use Rattle.end_model.specs.Linking.{sends_frames, negotiated, ends_linked, links_by, links, ticks_link}
-use Rattle.end_model.specs.Ticking.{clears, greeted, greets, limits_at, limits_all, goes_quietly, ticks_by, ticks}
+use Rattle.end_model.specs.Stopping.{clears}
+use Rattle.end_model.specs.Events.{with_calls}
+use Rattle.end_model.specs.Recovering.{RecoveryTurn, with_recovery, recovery_letter, without_recovery, repeats_on, ticked, is_kept_long, ticks_on, recovery_ticks}
+use Rattle.end_model.specs.Ticking.{greeted, greets, limits_at, limits_all, goes_quietly, ticks_by, ticks}
 use Rattle.due_laws.specs.Ticks.{count_done}
 
 -- ---- at least so much is done
@@ -163,9 +168,11 @@ pub row_does : (for : CauseOf) (result : ℕ) (error : Option ℕ) (s : ℕ) (c 
 unfolding ends_by drops
 row_does for result error s c call_action.CleanUp t ends = silent_does s _ t
 row_does for result error s c call_action.SendCdn t ends =
-    either 1 (has_room t.control) t _ _
+    either 1 (not (is_current t.on.mode)) t _ _
+    (silent_does s _ t)
+    (either 1 (has_room t.control) t _ _
     (then_does 1 t _ _ (less_does t _ (output_does (Cause for) t)) (told_does s c result error _))
-    (output_does _ t)
+    (output_does _ t))
 row_does for result error s c call_action.Nothing t ends = absurd (true≢false (sym ends))
 row_does for result error s c call_action.SendIcrq t ends = absurd (true≢false (sym ends))
 row_does for result error s c call_action.SendIcrp t ends = absurd (true≢false (sym ends))
@@ -272,3 +279,52 @@ module _ (role : Role) (letters : List Letter) where
   pub ticks_does : (calls : List (ℕ × Call)) (t : Turn) → Does 0 t (ticks role letters calls t)
   unfolding ticks
   ticks_does calls t = either 0 _ t _ _ (less_does t _ (clears_does calls t)) (by_does calls _ t)
+
+-- ---- the recovery tunnel
+
+recovery_letter_does : (c : ControlConnection) (number : ℕ) (o : Option Letter) (t : Turn) → Does 0 t (recovery_letter c number o t)
+unfolding recovery_letter
+recovery_letter_does c number None t = same_does t
+recovery_letter_does c number (Some l) t = either 0 _ t _ t (less_does t _ (output_does _ t)) (same_does t)
+
+pub again_does : (number : ℕ) (r : Recovering) (t : Turn) → Does 1 t (repeats_on (tick.Again number) r t)
+unfolding repeats_on
+again_does number r t = first_does 1 t _ _ (move_does _ t) (recovery_letter_does (connection_of r) number _ _)
+
+repeats_on_does : (d : Due) (r : Recovering) (t : Turn) → Does 0 t (repeats_on d r t)
+unfolding repeats_on
+repeats_on_does tick.Quiet r t = same_does t
+repeats_on_does (tick.Again number) r t = less_does t _ (again_does number r t)
+repeats_on_does (tick.Failed first) r t = same_does t
+
+pub either_both : (n : ℕ) (b : Bool) (t : Turn) (x y : RecoveryTurn) → Does n t x.turn → Does n t y.turn → Does n t (if b then x else y).turn
+either_both n true t x y h k = h
+either_both n false t x y h k = k
+
+pub over_does : (t : Turn) → Does 1 t (without_recovery t).turn
+unfolding without_recovery
+over_does t = move_does _ t
+
+-- what the recovery tunnel does behind what it repeats
+abbrev pub goes_on : List (ℕ × Call) → Recovering → Bool → Bool → Recovering → Turn → RecoveryTurn
+goes_on calls r lost kept next u =
+    if lost then with_recovery r (clears (with_calls u.changed calls) u)
+    else if kept then without_recovery u
+    else with_recovery next u
+
+pub goes_on_does : (calls : List (ℕ × Call)) (r : Recovering) (lost kept : Bool) (next : Recovering) (u : Turn) → Does 0 u (goes_on calls r lost kept next u).turn
+goes_on_does calls r lost kept next u =
+    either_both 0 lost u _ _ (less_does u _ (clears_does (with_calls u.changed calls) u))
+    (either_both 0 kept u _ _ (less_does u _ (over_does u)) (same_does u))
+
+ticks_on_does : (calls : List (ℕ × Call)) (r : Recovering) (t : Turn) → Does 0 t (ticks_on calls r t).turn
+unfolding ticks_on
+ticks_on_does calls r t =
+    let m = t.on.moment in
+    then_does 0 t _ _ (repeats_on_does (channel_answer (connection_of r).channel m) r t)
+    (goes_on_does calls r (is_lost m (connection_of r)) (is_kept_long m r) (ticked m r) _)
+
+pub recovery_does : (calls : List (ℕ × Call)) (recovery : Option Recovering) (t : Turn) → Does 0 t (recovery_ticks calls recovery t).turn
+unfolding recovery_ticks
+recovery_does calls None t = same_does t
+recovery_does calls (Some r) t = either_both 0 t.cleared t _ _ (same_does t) (ticks_on_does calls r t)

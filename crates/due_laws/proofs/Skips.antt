@@ -9,15 +9,17 @@ use Rattle.id_source.specs.Spaces.{Space}
 use Rattle.end_model.specs.declared.event.Event.TheVariants.{Tick}
 use Rattle.end_model.specs.declared.out.Out.{Out}
 use Rattle.end_model.specs.declared.moves.Move.{Move}
-use Rattle.end_model.specs.Tunnels.{Drawing, Ground, Tunnel, Env, Turn, turn_of}
+use Rattle.end_model.specs.Tunnels.{Drawing, Ground, Tunnel, Env, Turn, turn_in, mode_of}
+use Rattle.end_model.specs.Recovering.{RecoveryTurn, recovering_turns, recovery_ticks}
 use Rattle.end_model.specs.Events.{turns, with_calls, tunnel_after}
-use Rattle.end_model.specs.End.{End, env_of, placed, with_looks, tunnels_after, after_turn, Turned, tick_of, ticks_of, end_after_all, after_all, ticks_all, step_in, plain_step}
-use Rattle.tunnel_timers.specs.Due.{is_before, tunnel_due, end_due, LeavesOut, NoneLeft, Stays, Waits, IsEarly}
+use Rattle.end_model.specs.Ticking.{ticks}
+use Rattle.end_model.specs.End.{End, env_of, placed, with_looks, tunnels_after, after_turn, after_both, Turned, tick_of, ticks_of, end_after_all, after_all, ticks_all, step_in, plain_step}
+use Rattle.tunnel_timers.specs.Due.{is_before, due_of, recovery_due, tunnel_due, end_due, LeavesOut, NoneLeft, Stays, Waits, IsEarly}
 use Rattle.tunnel_timers.specs.Bounds.{all_left_out}
 use Rattle.due_laws.specs.Ticks.{nothing_done}
-use Rattle.tunnel_timers.specs.Moments.{before_holds, found_holds}
-use Rattle.due_laws.proofs.Quiet.{quiet_turn}
-use Rattle.due_laws.proofs.Growing.{ticks_does}
+use Rattle.tunnel_timers.specs.Moments.{before_both, before_holds, found_holds}
+use Rattle.due_laws.proofs.Quiet.{quiet_turn, quiet_recovery}
+use Rattle.due_laws.proofs.Growing.{ticks_does, recovery_does}
 
 -- ---- ids that differ
 
@@ -52,6 +54,7 @@ module _ (e : End) (moment : ℕ) (block : List ℕ) where
   record IsAmid (is : List ℕ) (x : End) : Type 0 where
     tunnel_ids : x.tunnel_ids ≡ e.tunnel_ids
     session_ids : x.session_ids ≡ e.session_ids
+    recovery_ids : x.recovery_ids ≡ e.recovery_ids
     order : Ascends x.tunnels
     untouched : AllByRecursion (λ i. at x.tunnels i ≡ at e.tunnels i) is
 
@@ -60,27 +63,33 @@ module _ (e : End) (moment : ℕ) (block : List ℕ) where
   all_untouched (i ∷ is) = (refl, all_untouched is)
 
   amid_less : (i : ℕ) (is : List ℕ) (x : End) → IsAmid (i ∷ is) x → IsAmid is x
-  amid_less i is x h = record { tunnel_ids = h.tunnel_ids; session_ids = h.session_ids; order = h.order; untouched = h.untouched.1 }
+  amid_less i is x h = record { tunnel_ids = h.tunnel_ids; session_ids = h.session_ids; recovery_ids = h.recovery_ids; order = h.order; untouched = h.untouched.1 }
 
-  same_tunnel : (t : Tunnel) → tunnel_after (turn_of t.control start) t.letters t.calls ≡ t
+  -- a turn that is begun, with its recovery tunnel
+  abbrev begun_turn : Tunnel → RecoveryTurn
+  begun_turn t = record { turn = turn_in t start; recovery = t.recovery }
+
+  same_tunnel : (t : Tunnel) → tunnel_after (turn_in t start) t.letters t.calls t.recovery ≡ t
   unfolding with_calls
   same_tunnel t = ap (λ (ls : List Letter). record t { letters = ls }) (append-nil t.letters)
 
   -- a turn in which nothing is done leaves the end
   idle_end : (x : End) (i : ℕ) (is : List ℕ) (t : Tunnel) → IsAmid (i ∷ is) x → at e.tunnels i ≡ Some t
-      → (after_turn x i t.letters t.calls (turn_of t.control start)).end ≡ x
+      → (after_both x i t (begun_turn t)).end ≡ x
   unfolding after_turn placed with_looks
   idle_end x i is t h there =
-      ap (λ (s : Space). record x { tunnel_ids = s; session_ids = e.session_ids; tunnels = put x.tunnels i (tunnel_after (turn_of t.control start) t.letters t.calls) }) (sym h.tunnel_ids)
-      ∙ ap (λ (s : Space). record x { session_ids = s; tunnels = put x.tunnels i (tunnel_after (turn_of t.control start) t.letters t.calls) }) (sym h.session_ids)
+      let after = tunnel_after (turn_in t start) t.letters t.calls t.recovery in
+      ap (λ (s : Space). record x { tunnel_ids = s; session_ids = e.session_ids; recovery_ids = e.recovery_ids; tunnels = put x.tunnels i after }) (sym h.tunnel_ids)
+      ∙ ap (λ (s : Space). record x { session_ids = s; recovery_ids = e.recovery_ids; tunnels = put x.tunnels i after }) (sym h.session_ids)
+      ∙ ap (λ (s : Space). record x { recovery_ids = s; tunnels = put x.tunnels i after }) (sym h.recovery_ids)
       ∙ ap (λ (u : Tunnel). record x { tunnels = put x.tunnels i u }) (same_tunnel t)
       ∙ ap (λ (ts : List (ℕ × Tunnel)). record x { tunnels = ts }) (put-again i t x.tunnels h.order (h.untouched.0 ∙ there))
 
-  abbrev turn_at : Tunnel → Turn
-  turn_at t = turns e.role e.config t.letters t.calls Tick (turn_of t.control start)
+  abbrev turn_at : Tunnel → RecoveryTurn
+  turn_at t = recovering_turns e.role e.config t Tick (turn_in t start)
 
   abbrev after : End → ℕ → Tunnel → End
-  after x i t = (after_turn x i t.letters t.calls (turn_at t)).end
+  after x i t = (after_both x i t (turn_at t)).end
 
   untouched_still : (x : End) (i : ℕ) (b : Bool) (u : Tunnel) (is : List ℕ) → AllByRecursion (λ j. j ≡ i → ⊥) is → AllByRecursion (λ j. at x.tunnels j ≡ at e.tunnels j) is
       → AllByRecursion (λ j. at (tunnels_after x.tunnels i b u) j ≡ at e.tunnels j) is
@@ -88,23 +97,28 @@ module _ (e : End) (moment : ℕ) (block : List ℕ) where
   untouched_still x i b u (j ∷ is) apart h = (other_left x.tunnels i b u j apart.0 ∙ h.0, untouched_still x i b u is apart.1 h.1)
 
   amid_next : (x : End) (i : ℕ) (t : Tunnel) (is : List ℕ) → AllByRecursion (λ j. j ≡ i → ⊥) is → IsAmid (i ∷ is) x → IsAmid is (after x i t)
-  unfolding after_turn turns
+  unfolding after_turn recovering_turns turns
   amid_next x i t is apart h =
       let r = turn_at t in
-      let ground = (ticks_does e.role t.letters t.calls (turn_of t.control start)).ground in
+      let main = ticks e.role t.letters t.calls (turn_in t start) in
+      let ground = (recovery_does t.calls t.recovery main).ground ∙ (ticks_does e.role t.letters t.calls (turn_in t start)).ground in
       record {
         tunnel_ids = ap (λ (g : Ground × Drawing). g.1.tunnels) ground;
         session_ids = ap (λ (g : Ground × Drawing). g.1.sessions) ground;
-        order = left_ascend x.tunnels i r.cleared (tunnel_after r t.letters t.calls) h.order;
-        untouched = untouched_still x i r.cleared (tunnel_after r t.letters t.calls) is apart h.untouched.1;
+        recovery_ids = ap (λ (g : Ground × Drawing). g.1.recoveries) ground;
+        order = left_ascend x.tunnels i r.turn.cleared (tunnel_after r.turn t.letters t.calls r.recovery) h.order;
+        untouched = untouched_still x i r.turn.cleared (tunnel_after r.turn t.letters t.calls r.recovery) is apart h.untouched.1;
       }
 
   abbrev EarlyAt : ℕ → Type 0
   EarlyAt i = IsEarly e.tunnels moment i
 
-  idle_turn : (i : ℕ) (t : Tunnel) → at e.tunnels i ≡ Some t → EarlyAt i → turn_at t ≡ turn_of t.control start
-  unfolding turns
-  idle_turn i t there early = quiet_turn e.role t.letters (turn_of t.control start) t.calls (early t there)
+  idle_turn : (i : ℕ) (t : Tunnel) → at e.tunnels i ≡ Some t → EarlyAt i → turn_at t ≡ begun_turn t
+  unfolding recovering_turns turns
+  idle_turn i t there early =
+      let both = before_both moment (due_of (mode_of t.recovery) t.control t.calls) (recovery_due t.recovery) (early t there) in
+      ap (recovery_ticks t.calls t.recovery) (quiet_turn e.role t.letters (turn_in t start) t.calls both.0)
+      ∙ quiet_recovery t.calls t.recovery (turn_in t start) both.1
 
   -- the turns of these tunnels
   abbrev made : List ℕ → List Turned
@@ -119,7 +133,7 @@ module _ (e : End) (moment : ℕ) (block : List ℕ) where
   unfolding end_after_all
   ends_without i is js early later None there x h = later x (amid_less i is x h)
   ends_without i is js early later (Some t) there x h =
-      ap (λ (r : Turn). end_after_all (made is) (after_turn x i t.letters t.calls r).end) (idle_turn i t there early)
+      ap (λ (r : RecoveryTurn). end_after_all (made is) (after_both x i t r).end) (idle_turn i t there early)
       ∙ ap (end_after_all (made is)) (idle_end x i is t h there)
       ∙ later x (amid_less i is x h)
 
@@ -136,22 +150,22 @@ module _ (e : End) (moment : ℕ) (block : List ℕ) where
   same_ends is js (Stays i ks ls l) apart x h = ends_with i ks ls apart.0 (same_ends ks ls l apart.1) (at e.tunnels i) refl x h
   same_ends is js (Waits i ks ls early l) apart x h = ends_without i ks ls early (same_ends ks ls l apart.1) (at e.tunnels i) refl x h
 
-  module _ {Y : Type 0} (f : Turn → List Y) (none : (t : Tunnel) → f (turn_of t.control start) ≡ []) where
+  module _ {Y : Type 0} (f : Turn → List Y) (none : (t : Tunnel) → f (turn_in t start) ≡ []) where
     abbrev given : List ℕ → List Y
-    given is = flat_map (λ t. f t.turn) (made is)
+    given is = flat_map (λ t. f t.turn.turn) (made is)
 
     gives_without : (i : ℕ) (is js : List ℕ) → EarlyAt i → given is ≡ given js → (o : Option Tunnel) → at e.tunnels i ≡ o
-        → flat_map (λ t. f t.turn) (tick_of e start i o ++ made is) ≡ given js
+        → flat_map (λ t. f t.turn.turn) (tick_of e start i o ++ made is) ≡ given js
     gives_without i is js early later None there = later
     gives_without i is js early later (Some t) there =
-        ap (λ (r : Turn). f r ++ given is) (idle_turn i t there early)
+        ap (λ (r : RecoveryTurn). f r.turn ++ given is) (idle_turn i t there early)
         ∙ ap (λ ys. ys ++ given is) (none t)
         ∙ later
 
     gives_with : (i : ℕ) (is js : List ℕ) → given is ≡ given js → (o : Option Tunnel)
-        → flat_map (λ t. f t.turn) (tick_of e start i o ++ made is) ≡ flat_map (λ t. f t.turn) (tick_of e start i o ++ made js)
+        → flat_map (λ t. f t.turn.turn) (tick_of e start i o ++ made is) ≡ flat_map (λ t. f t.turn.turn) (tick_of e start i o ++ made js)
     gives_with i is js later None = later
-    gives_with i is js later (Some t) = ap (λ ys. f (turn_at t) ++ ys) later
+    gives_with i is js later (Some t) = ap (λ ys. f (turn_at t).turn ++ ys) later
 
     same_given : (is js : List ℕ) → LeavesOut EarlyAt is js → given is ≡ given js
     unfolding ticks_of
@@ -163,10 +177,10 @@ module _ (e : End) (moment : ℕ) (block : List ℕ) where
   unfolding ticks_all after_all
   left_out ascend ids left =
       let is = ids_of e.tunnels in
-      let begun : IsAmid is e = record { tunnel_ids = refl; session_ids = refl; order = ascend; untouched = all_untouched is } in
-      ap (λ (x : End). record { end = x; outputs = flat_map (λ t. t.turn.outputs) (made is); moves = flat_map (λ t. t.turn.moves) (made is) }) (same_ends is ids left (ids_apart e.tunnels ascend) e begun)
-      ∙ ap (λ (os : List Out). record { end = end_after_all (made ids) e; outputs = os; moves = flat_map (λ t. t.turn.moves) (made is) }) (same_given (λ t. t.outputs) (λ t. refl) is ids left)
-      ∙ ap (λ (ms : List Move). record { end = end_after_all (made ids) e; outputs = flat_map (λ t. t.turn.outputs) (made ids); moves = ms }) (same_given (λ t. t.moves) (λ t. refl) is ids left)
+      let begun : IsAmid is e = record { tunnel_ids = refl; session_ids = refl; recovery_ids = refl; order = ascend; untouched = all_untouched is } in
+      ap (λ (x : End). record { end = x; outputs = flat_map (λ t. t.turn.turn.outputs) (made is); moves = flat_map (λ t. t.turn.turn.moves) (made is) }) (same_ends is ids left (ids_apart e.tunnels ascend) e begun)
+      ∙ ap (λ (os : List Out). record { end = end_after_all (made ids) e; outputs = os; moves = flat_map (λ t. t.turn.turn.moves) (made is) }) (same_given (λ t. t.outputs) (λ t. refl) is ids left)
+      ∙ ap (λ (ms : List Move). record { end = end_after_all (made ids) e; outputs = flat_map (λ t. t.turn.turn.outputs) (made ids); moves = ms }) (same_given (λ t. t.moves) (λ t. refl) is ids left)
 
 -- ---- all of them are left out
 

@@ -1,8 +1,9 @@
 -- As time passes in a tunnel no id is drawn, and no call is made.
 use Rattle.std.proofs.Common.{◌≡◌, ℕ, zero, suc, Bool, true, false, List, [], ◌∷◌, Option, Some, None, refl, ◌∙◌}
-use Rattle.std.specs.Prelude.{if◌then◌else◌}
+use Rattle.std.specs.Prelude.{not, if◌then◌else◌}
 use Rattle.id_table.specs.Ids.{at}
 use Rattle.wire_base.specs.declared.letter.Letter.{Letter}
+use Rattle.wire_base.specs.declared.why.Why.TheVariants as why
 use Rattle.wire_base.specs.declared.cause.Cause.TheVariants as cause
 use Rattle.wire_base.specs.declared.cause.Cause.{Cause as CauseOf}
 use Rattle.send_window.specs.declared.window.Tick.{Tick as Due}
@@ -13,10 +14,19 @@ use Rattle.call_link.specs.declared.turn.LinkTurn.{LinkTurn}
 use Rattle.end_model.specs.declared.tunnel.Call.{Call}
 use Rattle.call_link.specs.Link.{Link}
 use Rattle.end_names.specs.declared.role.Role.{Role}
-use Rattle.end_model.specs.Calls.{counted, counted_all}
-use Rattle.end_model.specs.Tunnels.{Drawing, Turn}
+use Rattle.end_model.specs.Calls.{is_up, counted, counted_all}
+use Rattle.end_model.specs.Channels.{has_room}
+use Rattle.end_model.specs.declared.out.Out.TheVariants.{Cause}
+use Rattle.control_channel.specs.Channel.{answer_to_tick}
+use Rattle.recovery_tunnel.specs.Connections.{ControlConnection, is_lost}
+use Rattle.end_model.specs.declared.event.Event.TheVariants.{Tick}
+use Rattle.end_model.specs.declared.tunnel.Config.{Config}
+use Rattle.end_model.specs.Events.{with_calls, turns}
+use Rattle.end_model.specs.Recovering.{RecoveryTurn, with_recovery, recovery_letter, repeats_on, is_kept_long, ticked, ticks_on, without_recovery, recovery_ticks, recovering_turns}
+use Rattle.end_model.specs.Tunnels.{Tunnel, is_current, Drawing, Turn, Recovering, connection_of}
 use Rattle.end_model.specs.Turn.{with_output, with_move, with_change, drops, ends_call, ends_all, with_looks_of, with_call}
-use Rattle.end_model.specs.Ticking.{clears, greeted, greets, limits_at, limits_all, goes_quietly, ticks_by, ticks}
+use Rattle.end_model.specs.Ticking.{greeted, greets, limits_at, limits_all, goes_quietly, ticks_by, ticks}
+use Rattle.end_model.specs.Stopping.{clears}
 use Rattle.end_model.specs.Sending.{gives, sends_letter, sends_now, lets_go, goes_by, lets_all_go, repeats, acknowledges, acknowledged_after, settles}
 use Rattle.end_model.specs.Closing.{end_silent, end_told, ends_by}
 use Rattle.end_model.specs.Frames.{sends_frame, counts, carried}
@@ -34,7 +44,11 @@ ended_drawn : (for : CauseOf) (result : ℕ) (error : Option ℕ) (s : ℕ) (c :
     → drawn (ends_by for result error s c a t) ≡ drawn t
 unfolding ends_by end_silent end_told gives drops ends_call with_output with_move with_change
 ended_drawn for result error s c call_action.CleanUp t = refl
-ended_drawn for result error s c call_action.SendCdn t = either _ _ _ t refl refl
+ended_drawn for result error s c call_action.SendCdn t =
+    let told : Turn = end_told s c result error (with_output (Cause for) t) in
+    let full : Turn = drops why.Queue t in
+    let current : Turn = if has_room t.control then told else full in
+    either (not (is_current t.on.mode)) (end_silent s (is_up c.state) t) current t refl (either (has_room t.control) told full t refl refl)
 ended_drawn for result error s c a t = refl
 
 counts_drawn : (s : ℕ) (c : Call) (o : Option ℕ) (t : Turn) → drawn (counts s c o t) ≡ drawn t
@@ -131,6 +145,44 @@ due_drawn role letters calls tick.Quiet t = quietly_drawn letters role calls t
 due_drawn role letters calls (tick.Again number) t = quietly_drawn letters role calls (repeats letters number t) ∙ repeats_drawn letters number t
 due_drawn role letters calls (tick.Failed first) t = clears_drawn calls t
 
-pub ticks_drawn : (role : Role) (letters : List Letter) (calls : List (ℕ × Call)) (t : Turn) → drawn (ticks role letters calls t) ≡ drawn t
+ticks_drawn : (role : Role) (letters : List Letter) (calls : List (ℕ × Call)) (t : Turn) → drawn (ticks role letters calls t) ≡ drawn t
 unfolding ticks
 ticks_drawn role letters calls t = either _ _ _ t (clears_drawn calls t) (due_drawn role letters calls _ t)
+
+-- ---- its recovery tunnel
+
+either_on : (b : Bool) (x y : RecoveryTurn) (t : Turn) → drawn x.turn ≡ drawn t → drawn y.turn ≡ drawn t → drawn (if b then x else y).turn ≡ drawn t
+either_on true x y t one other = one
+either_on false x y t one other = other
+
+line_letter_drawn : (c : ControlConnection) (number : ℕ) (o : Option Letter) (t : Turn) → drawn (recovery_letter c number o t) ≡ drawn t
+unfolding recovery_letter with_output
+line_letter_drawn c number None t = refl
+line_letter_drawn c number (Some l) t = either _ _ _ t refl refl
+
+repeats_on_drawn : (k : Due) (r : Recovering) (t : Turn) → drawn (repeats_on k r t) ≡ drawn t
+unfolding repeats_on with_move
+repeats_on_drawn tick.Quiet r t = refl
+repeats_on_drawn (tick.Again number) r t = line_letter_drawn (connection_of r) number _ _
+repeats_on_drawn (tick.Failed first) r t = refl
+
+on_drawn : (calls : List (ℕ × Call)) (r : Recovering) (t : Turn) → drawn (ticks_on calls r t).turn ≡ drawn t
+unfolding ticks_on without_recovery with_move
+on_drawn calls r t =
+    let u : Turn = repeats_on (answer_to_tick (connection_of r).channel t.on.moment) r t in
+    let went : drawn u ≡ drawn t = repeats_on_drawn (answer_to_tick (connection_of r).channel t.on.moment) r t in
+    let lost : RecoveryTurn = with_recovery r (clears (with_calls u.changed calls) u) in
+    let over : RecoveryTurn = without_recovery u in
+    let kept : RecoveryTurn = with_recovery (ticked t.on.moment r) u in
+    let later : RecoveryTurn = if is_kept_long t.on.moment r then over else kept in
+    either_on (is_lost t.on.moment (connection_of r)) lost later t (clears_drawn (with_calls u.changed calls) u ∙ went) (either_on (is_kept_long t.on.moment r) over kept t went went)
+
+recovery_drawn : (calls : List (ℕ × Call)) (o : Option Recovering) (t : Turn) → drawn (recovery_ticks calls o t).turn ≡ drawn t
+unfolding recovery_ticks
+recovery_drawn calls None t = refl
+recovery_drawn calls (Some r) t = either_on _ _ _ t refl (on_drawn calls r t)
+
+-- and of the tunnel with it
+pub turn_drawn : (role : Role) (c : Config) (u : Tunnel) (t : Turn) → drawn (recovering_turns role c u Tick t).turn ≡ drawn t
+unfolding recovering_turns turns
+turn_drawn role c u t = recovery_drawn u.calls u.recovery (ticks role u.letters u.calls t) ∙ ticks_drawn role u.letters u.calls t

@@ -3,7 +3,7 @@ use Rattle.std.proofs.Common.{◌≡◌, ℕ, zero, suc, ◌+◌, ◌<◌, Bool,
 use Rattle.std.proofs.lemmas.Bool.{eq-eqb}
 use Rattle.std.proofs.lemmas.List.{append_assoc, append-nil, take_more}
 use Rattle.std.proofs.lemmas.Grind.{flat_map-append}
-use Rattle.std.specs.Prelude.{◌≢◌, IsSome, option_map}
+use Rattle.std.specs.Prelude.{◌≢◌, IsSome, IfSome, option_map}
 use Rattle.std.specs.List.{AllByRecursion, flat_map}
 use Rattle.std.specs.List.Sorted.{IsStrictlySortedBy}
 use Rattle.std.specs.declared.cmp.Ordering.TheVariants.{Less}
@@ -19,34 +19,35 @@ use Rattle.end_model.specs.declared.tunnel.CallPlace.{CallPlace}
 use Rattle.session_looks.specs.declared.look.CellChange.{CellChange}
 use Rattle.end_model.specs.declared.tunnel.Config.{Config}
 use Rattle.end_names.specs.declared.role.Role.{Role}
+use Rattle.end_model.specs.declared.event.Event.{Event}
 use Rattle.end_model.specs.declared.event.Event.TheVariants.{Tick}
 use Rattle.end_model.specs.declared.out.Out.{Out}
 use Rattle.end_model.specs.declared.moves.Move.{Move}
-use Rattle.end_model.specs.Tunnels.{Tunnel, Env, Turn, turn_of}
+use Rattle.end_model.specs.Tunnels.{Tunnel, Env, turn_in}
 use Rattle.end_model.specs.Turn.{with_turn}
-use Rattle.end_model.specs.Events.{turns}
-use Rattle.end_model.specs.Ticking.{ticks}
-use Rattle.end_model.specs.End.{End, Stepped, env_of, placed, with_look, with_looks, tunnels_after, after_turn, Turned, tick_of, ticks_of, end_after_all, after_all, ticks_all}
-use Rattle.tunnel_core.specs.Cores.{Core, Plan, IsTurn, tunnel_of, made_of}
-use Rattle.tunnel_table.specs.Plans.{HasPlace, after_plan, IsPlanned, IsGiven}
+use Rattle.end_model.specs.Recovering.{RecoveryTurn, recovering_turns}
+use Rattle.end_model.specs.End.{End, Stepped, env_of, placed, with_look, with_looks, tunnels_after, after_both, after_turn, Turned, tick_of, ticks_of, end_after_all, after_all, ticks_all}
+use Rattle.tunnel_table.specs.Cores.{Core, Plan, IsTurn, tunnel_of, made_of}
+use Rattle.tunnel_table.specs.Plans.{turn_at, HasPlace, after_plan, IsPlanned, IsGiven}
 use Rattle.tunnel_table.specs.Tunnels.{tunnels_of, at_tunnels, ids_tunnels}
 use Rattle.end_core.specs.Ticking.{with_tunnels, tick_at, ticks_at, ArePlanned, with_ticks, HavePlaces, after_plans}
-use Rattle.end_core.proofs.Draws.{ticks_drawn}
+use Rattle.end_core.proofs.Draws.{turn_drawn}
 
 -- ---- one tunnel is planned
 
 -- what a turn gave, as a list of turns of which it is the only one
-pub one_given : (role : Role) (c : Config) (es : List (ℕ × Core)) (env now : Env) (id : ℕ) (o : Option Tunnel) → IsSome o → IsGiven role c Tick env o now
+pub one_given : (role : Role) (c : Config) (es : List (ℕ × Core)) (env now : Env) (id : ℕ) (o : Option Tunnel) → IsSome o → IfSome o (λ t. now ≡ with_turn (recovering_turns role c t Tick (turn_in t env)).turn env)
     → now ≡ with_ticks (tick_of (with_tunnels role c es) env id o) env
-unfolding with_turn with_ticks turns
+unfolding with_turn with_ticks
 one_given role c es env now id None some given = absurd (true≢false (sym some))
 one_given role c es env now id (Some u) some given =
-    let t = ticks role u.letters u.calls (turn_of u.control env) in
-    let d = ticks_drawn role u.letters u.calls (turn_of u.control env) in
+    let r = recovering_turns role c u Tick (turn_in u env) in
+    let t = r.turn in
+    let d = turn_drawn role c u (turn_in u env) in
     let ids = ap (λ x. x.1) d in
     given ∙ rw (ids, append-nil t.outputs, append-nil t.changes, append-nil t.moves) refl
 
-pub one_planned : (role : Role) (c : Config) (es : List (ℕ × Core)) (env : Env) (id : ℕ) (o : Option Tunnel) → IsSome o → (p : Plan) → IsPlanned role c Tick env o p
+pub one_planned : (role : Role) (c : Config) (es : List (ℕ × Core)) (env : Env) (id : ℕ) (o : Option Tunnel) → IsSome o → (p : Plan) → IfSome o (λ t. IsTurn p t.recovery (recovering_turns role c t Tick (turn_in t env)))
     → ArePlanned ((id, p) ∷ []) (tick_of (with_tunnels role c es) env id o)
 unfolding ArePlanned
 one_planned role c es env id None some p h = absurd (true≢false (sym some))
@@ -128,7 +129,7 @@ with_none env = rw (append-nil env.outputs, append-nil env.changes, append-nil e
 pub with_more : (ts us : List Turned) (env : Env) → with_ticks us (with_ticks ts env) ≡ with_ticks (ts ++ us) env
 unfolding with_ticks
 with_more ts us env =
-    rw (flat_map-append (λ (t : Turned). t.turn.outputs) ts us, flat_map-append (λ (t : Turned). t.turn.changes) ts us, flat_map-append (λ (t : Turned). t.turn.moves) ts us, append_assoc env.outputs (flat_map (λ (t : Turned). t.turn.outputs) ts) (flat_map (λ (t : Turned). t.turn.outputs) us), append_assoc env.changes (flat_map (λ (t : Turned). t.turn.changes) ts) (flat_map (λ (t : Turned). t.turn.changes) us), append_assoc env.moves (flat_map (λ (t : Turned). t.turn.moves) ts) (flat_map (λ (t : Turned). t.turn.moves) us)) refl
+    rw (flat_map-append (λ (t : Turned). t.turn.turn.outputs) ts us, flat_map-append (λ (t : Turned). t.turn.turn.changes) ts us, flat_map-append (λ (t : Turned). t.turn.turn.moves) ts us, append_assoc env.outputs (flat_map (λ (t : Turned). t.turn.turn.outputs) ts) (flat_map (λ (t : Turned). t.turn.turn.outputs) us), append_assoc env.changes (flat_map (λ (t : Turned). t.turn.turn.changes) ts) (flat_map (λ (t : Turned). t.turn.turn.changes) us), append_assoc env.moves (flat_map (λ (t : Turned). t.turn.turn.moves) ts) (flat_map (λ (t : Turned). t.turn.turn.moves) us)) refl
 
 pub ticks_more : (e : End) (env : Env) (is js : List ℕ) → ticks_of e env (is ++ js) ≡ ticks_of e env is ++ ticks_of e env js
 unfolding ticks_of
@@ -225,13 +226,13 @@ other_stays ts p (Some t) q apart = other_left ts p.0 p.1.cleared (made_of p.1 t
 
 -- an end after plans and changes of looks, with where ids are drawn from
 abbrev left : End → Env → List (ℕ × Tunnel) → List (ℕ × CallPlace) → End
-left x start tunnels calls = record x { tunnel_ids = start.ids.tunnels; session_ids = start.ids.sessions; tunnels = tunnels; calls = calls }
+left x start tunnels calls = record x { tunnel_ids = start.ids.tunnels; session_ids = start.ids.sessions; recovery_ids = start.ids.recoveries; tunnels = tunnels; calls = calls }
 
-one_made : (x : End) (start : Env) (i : ℕ) (t : Tunnel) (r : Turn) (p : ℕ × Plan) → p.0 ≡ i → IsTurn p.1 r → at x.tunnels i ≡ Some t → r.added ≡ [] → r.ids ≡ start.ids
-    → (after_turn x i t.letters t.calls r).end ≡ left x start (after_plan x.tunnels p (at x.tunnels p.0)) (with_looks r.changes x.calls)
+one_made : (x : End) (start : Env) (i : ℕ) (t : Tunnel) (r : RecoveryTurn) (p : ℕ × Plan) → p.0 ≡ i → IsTurn p.1 t.recovery r → at x.tunnels i ≡ Some t → r.turn.added ≡ [] → r.turn.ids ≡ start.ids
+    → (after_both x i t r).end ≡ left x start (after_plan x.tunnels p (at x.tunnels p.0)) (with_looks r.turn.changes x.calls)
 unfolding after_turn placed
 one_made x start i t r p id plan there added ids =
-    rw (id, there, ids, added, plan.control, plan.acked, plan.given, plan.cleared, plan.changed) refl
+    rw (id, there, ids, added, plan.control, plan.acked, plan.given, plan.cleared, plan.changed, plan.recovery) refl
 
 -- the tunnels of these plans are as before
 abbrev Untouched : End → End → List (ℕ × Plan) → Type 0
@@ -243,27 +244,27 @@ still_untouched v x start p calls (q ∷ ps) apart h = (other_stays x.tunnels p 
 
 module _ (v : End) (start : Env) where
   abbrev Leaves : List Turned → Type 0
-  Leaves ts = (ps : List (ℕ × Plan)) → ArePlanned ps ts → IsStrictlySortedBy nat_cmp (ids_of ps) → (x : End) → x.tunnel_ids ≡ start.ids.tunnels → x.session_ids ≡ start.ids.sessions → Untouched v x ps
-      → end_after_all ts x ≡ left x start (after_plans ps x.tunnels) (with_looks (flat_map (λ t. t.turn.changes) ts) x.calls)
+  Leaves ts = (ps : List (ℕ × Plan)) → ArePlanned ps ts → IsStrictlySortedBy nat_cmp (ids_of ps) → (x : End) → x.tunnel_ids ≡ start.ids.tunnels → x.session_ids ≡ start.ids.sessions → x.recovery_ids ≡ start.ids.recoveries → Untouched v x ps
+      → end_after_all ts x ≡ left x start (after_plans ps x.tunnels) (with_looks (flat_map (λ t. t.turn.turn.changes) ts) x.calls)
 
   none_left : Leaves []
   unfolding end_after_all after_plans with_looks ArePlanned
-  none_left [] planned ascend x tunnels sessions same = rw (sym tunnels, sym sessions) refl
-  none_left (p ∷ ps) planned ascend x tunnels sessions same = absurd planned
+  none_left [] planned ascend x tunnels sessions recoveries same = rw (sym tunnels, sym sessions, sym recoveries) refl
+  none_left (p ∷ ps) planned ascend x tunnels sessions recoveries same = absurd planned
 
   next_left : (i : ℕ) (t : Tunnel) (ts : List Turned) → at v.tunnels i ≡ Some t → Leaves ts → Leaves (tick_of v start i (Some t) ++ ts)
-  unfolding end_after_all after_plans ArePlanned turns
-  next_left i t ts there later [] planned ascend x tunnels sessions same = absurd planned
-  next_left i t ts there later (p ∷ ps) planned ascend x tunnels sessions same =
-      let r = turns v.role v.config t.letters t.calls Tick (turn_of t.control start) in
-      let d = ticks_drawn v.role t.letters t.calls (turn_of t.control start) in
+  unfolding end_after_all after_plans ArePlanned
+  next_left i t ts there later [] planned ascend x tunnels sessions recoveries same = absurd planned
+  next_left i t ts there later (p ∷ ps) planned ascend x tunnels sessions recoveries same =
+      let r = recovering_turns v.role v.config t Tick (turn_in t start) in
+      let d = turn_drawn v.role v.config t (turn_in t start) in
       let is : at x.tunnels i ≡ Some t = subst (λ q. at x.tunnels q ≡ at v.tunnels q) planned.0 same.0 ∙ there in
-      let y = left x start (after_plan x.tunnels p (at x.tunnels p.0)) (with_looks r.changes x.calls) in
+      let y = left x start (after_plan x.tunnels p (at x.tunnels p.0)) (with_looks r.turn.changes x.calls) in
       let one = one_made x start i t r p planned.0 planned.1 is (ap (λ k. k.0) d) (ap (λ k. k.1) d) in
       let sorted = after_apart p.0 (ids_of ps) ascend in
       ap (end_after_all ts) one
-      ∙ later ps planned.2 sorted.1 y refl refl (still_untouched v x start p (with_looks r.changes x.calls) ps sorted.0 same.1)
-      ∙ ap (λ (cs : List (ℕ × CallPlace)). left x start (after_plans ps (after_plan x.tunnels p (at x.tunnels p.0))) cs) (sym (looks_more r.changes (flat_map (λ t. t.turn.changes) ts) x.calls))
+      ∙ later ps planned.2 sorted.1 y refl refl refl (still_untouched v x start p (with_looks r.turn.changes x.calls) ps sorted.0 same.1)
+      ∙ ap (λ (cs : List (ℕ × CallPlace)). left x start (after_plans ps (after_plan x.tunnels p (at x.tunnels p.0))) cs) (sym (looks_more r.turn.changes (flat_map (λ t. t.turn.turn.changes) ts) x.calls))
 
   left_by : (i : ℕ) (ts : List Turned) (o : Option Tunnel) → at v.tunnels i ≡ o → Leaves ts → Leaves (tick_of v start i o ++ ts)
   left_by i ts None there later = later
@@ -309,7 +310,7 @@ module _ (v : End) (moment : ℕ) (block : List ℕ) (es : List (ℕ × Core)) (
   unfolding after_all with_ticks
   all_is others env s planned given end outputs moves =
       let now : env ≡ with_ticks turned start = given ∙ ap (λ ts. with_ticks ts start) turned_are in
-      let ended = all_left v start is ps (subst (λ ts. ArePlanned ps ts) turned_are planned) ascend v refl refl (untouched v ps) in
+      let ended = all_left v start is ps (subst (λ ts. ArePlanned ps ts) turned_are planned) ascend v refl refl refl (untouched v ps) in
       others
       ∙ same_parts (after_all turned v) s
       (ended ∙ ap (λ (x : Env). record v { tunnels = after_plans ps v.tunnels; calls = with_looks x.changes v.calls }) (sym now) ∙ sym end)

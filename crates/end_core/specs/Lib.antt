@@ -1,6 +1,10 @@
+pub mod Cores
 pub mod Fits
 pub mod Gives
+pub mod Keeping
+pub mod Recovering
 pub mod Rows
-pub mod Sessions
-pub mod Ticking
 pub mod Saying
+pub mod Sessions
+pub mod Starting
+pub mod Ticking

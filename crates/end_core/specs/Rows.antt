@@ -3,9 +3,8 @@ use Rattle.std.specs.Prelude.{ℕ, ◌%◌, List, [], ◌∷◌, true, Option, S
 use Rattle.std.specs.List.{flat_map}
 use Rattle.id_table.specs.Ids.{at, ids_of}
 use Rattle.end_model.specs.declared.tunnel.Call.{Call}
-use Rattle.end_model.specs.Tunnels.{Tunnel}
+use Rattle.end_model.specs.Tunnels.{Tunnel, mode_of}
 use Rattle.end_model.specs.End.{End}
-use Rattle.end_core.specs.declared.rows.Mode.TheVariants.{Current}
 use Rattle.end_core.specs.declared.rows.CallRow.{CallRow}
 use Rattle.end_core.specs.declared.rows.TunnelRow.{TunnelRow}
 
@@ -18,7 +17,7 @@ calls_at s (Some c) = record { local = s % 65536; remote = c.remote; state = c.s
 unfoldable pub call_rows : List (ℕ × Call) → List CallRow
 call_rows calls = flat_map (λ s. calls_at s (at calls s)) (ids_of calls)
 
--- As long as nothing is kept over a start, a tunnel is current and complete.
+-- No end asks for its calls after a reset, so each tunnel is complete.
 abbrev pub rows_at : Option Tunnel → List TunnelRow
 rows_at None = []
 rows_at (Some t) = record {
@@ -26,7 +25,7 @@ rows_at (Some t) = record {
   peer = t.control.peer;
   remote = t.control.remote;
   state = t.control.state;
-  mode = Current;
+  mode = mode_of t.recovery;
   complete = true;
   calls = call_rows t.calls;
 } ∷ []

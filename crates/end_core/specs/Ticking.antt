@@ -9,7 +9,7 @@ use Rattle.end_model.specs.declared.tunnel.Config.{Config}
 use Rattle.end_names.specs.declared.role.Role.{Role}
 use Rattle.end_model.specs.Tunnels.{Tunnel, Env}
 use Rattle.end_model.specs.End.{End, new_end, Turned, tick_of, ticks_of}
-use Rattle.tunnel_core.specs.Cores.{Core, Plan, IsTurn}
+use Rattle.tunnel_table.specs.Cores.{Core, Plan, IsTurn}
 use Rattle.tunnel_table.specs.Plans.{HasPlace, after_plan}
 use Rattle.tunnel_table.specs.Tunnels.{tunnels_of}
 
@@ -30,14 +30,14 @@ unfoldable pub ArePlanned : List (ℕ × Plan) → List Turned → Type 0
 ArePlanned [] [] = Unit {0}
 ArePlanned [] (t ∷ ts) = ⊥
 ArePlanned (p ∷ ps) [] = ⊥
-ArePlanned (p ∷ ps) (t ∷ ts) = (p.0 ≡ t.id) × IsTurn p.1 t.turn × ArePlanned ps ts
+ArePlanned (p ∷ ps) (t ∷ ts) = (p.0 ≡ t.id) × IsTurn p.1 t.tunnel.recovery t.turn × ArePlanned ps ts
 
 -- what turns gave, behind what was there
 unfoldable pub with_ticks : List Turned → Env → Env
 with_ticks ts e = record e {
-  outputs = e.outputs ++ flat_map (λ t. t.turn.outputs) ts;
-  changes = e.changes ++ flat_map (λ t. t.turn.changes) ts;
-  moves = e.moves ++ flat_map (λ t. t.turn.moves) ts;
+  outputs = e.outputs ++ flat_map (λ t. t.turn.turn.outputs) ts;
+  changes = e.changes ++ flat_map (λ t. t.turn.turn.changes) ts;
+  moves = e.moves ++ flat_map (λ t. t.turn.turn.moves) ts;
 }
 
 -- what turns leave that draw no number, behind what was there

@@ -8,12 +8,12 @@ use crate::end::{End, Given};
 use control_message::{Message, Opening};
 use end_model::{ControlOrigin, Declined, Move, Origin, Out};
 use message_reading::{
-    Reason, Said, decline_bytes, fault_reason, is_of_version, lacks_secret, no_id, no_recovery,
-    no_secret, no_tunnel, other_version,
+    Reason, Said, decline_bytes, fault_reason, is_of_version, lacks_secret, no_id, no_secret,
+    no_tunnel, other_version,
 };
 use std::alloc::Global;
 use step_ledger::{Ledger, StepFault};
-use tunnel_core::{Moves, Outputs};
+use tunnel_table::{Moves, Outputs};
 use wire_base::NoMemory;
 
 impl End {
@@ -24,9 +24,6 @@ impl End {
     {
         if !is_of_version(opening) {
             return Some(other_version());
-        }
-        if opening.recovery.is_some() {
-            return Some(no_recovery());
         }
         if self.has_all_tunnels() {
             return Some(no_tunnel());

@@ -1,40 +1,37 @@
-//! An end with its tunnels: which tunnel an event is for, and what is seen of the calls.
+//! An end with its tunnels: what becomes of an event, and what is seen of the calls.
 
-ghost use Rattle.std.specs.Prelude.{◌≡◌, ◌≤◌, [], ◌∷◌, option_map, is_some, unwrap_or, IsSome, IfOk, OnOk, OnErr};
+ghost use Rattle.std.specs.Prelude.{◌≡◌, ◌≤◌, [], ◌∷◌, option_map, is_some, IsSome, IfOk, OnOk, OnErr};
 ghost use Rattle.std.specs.Option.{option_copied};
 ghost use Rattle.id_table.specs.Ids.{at, ids_of};
 ghost use Rattle.l2tp_header.specs.Reading.{header_of};
-ghost use Rattle.end_model.specs.End.{env_of, gives_only, after_turn, after_new, in_new, has_all_tunnels, in_one_more, in_main, known_as, opens_once, addressed, reached_plain, reached, for_addressee, opens_or_declines, against_body, least_in, for_call, look_in, receives, new_end, is_not_closed};
-ghost use Rattle.end_model.specs.Reading.{at_tunnel};
-ghost use Rattle.end_model.specs.Secrets.{uncovered_datagram, uncovered_event};
+ghost use Rattle.end_model.specs.End.{env_of, gives_only, after_new, in_new, has_all_tunnels, in_one_more, in_main, addressed, for_addressee, opens_or_declines, against_body, least_in, are_recovering, for_call, look_in, receives, new_end, is_not_closed};
 ghost use Rattle.end_core.specs.Fits.{fits};
 ghost use Rattle.end_core.specs.Saying.{IsSaidBy, IsControlEvent};
 ghost use Rattle.end_core.specs.Sessions.{next_session, subscriber_at};
-ghost use Rattle.tunnel_core.specs.Cores.{tunnel_of};
+ghost use Rattle.tunnel_table.specs.Cores.{tunnel_of, HasId};
 ghost use Rattle.end_model.specs.End.{drawing_of};
 ghost use Rattle.step_ledger.specs.Committing.{Commits};
 ghost use Rattle.step_records.specs.Leaving.{leaves};
 ghost use Rattle.end_model.specs.Contents.{contents_of};
-ghost use Rattle.end_core.specs.Gives.{GivesStep, CommitsStep, behind_given, given_in};
+ghost use Rattle.end_core.specs.Gives.{GivesStep, CommitsStep, behind_given, given_in, in_task};
 
 use crate::planning::{make_first, make_main, plan_first, plan_main};
 use call_places::look_at;
 use control_message::Message;
-use end_model::{Addressee, CallPlace, Config, Control, Event, Move, Out, Role};
+use end_model::{Addressee, CallPlace, Config, Event, Move, Out, Role};
 use id_source::Ids;
 use id_table::Table;
 use l2tp_datagram::{Body, Datagram};
 use l2tp_header::Header;
-use message_reading::{at_zero, next_of_peer, out_of_order, read_body, uncover_datagram};
+use message_reading::{next_of_peer, out_of_order, read_body};
 use session_looks::{CellChanges, Look, header_why};
 use std::alloc::Global;
 use std::marker::Model;
 use step_ledger::{Ledger, StepFault};
 use step_records::commit_step;
-use tunnel_core::{Env, Moves, Outputs, TunnelCore};
 use tunnel_fsm::TunnelState;
-use tunnel_table::TunnelTable;
-use wire_base::{Bytes, NoMemory, Sequence, Why};
+use tunnel_table::{Env, Moves, Outputs, Task, TunnelCore, TunnelTable};
+use wire_base::{NoMemory, Sequence, Why};
 
 /// The last tunnel id, the last session id, and the last number of a recovery.
 pub(crate) const LAST_TUNNEL: u32 = 65_535;
@@ -271,7 +268,7 @@ impl End {
 
     /// The step gives one output and changes nothing.
     #[tactic(auto, unfolding(end_model::specs::End::gives_only))]
-    fn only<L: Ledger>(&mut self, ledger: &mut L, out: Out) -> Result<Given, StepFault<L::Stop>>
+    pub fn only<L: Ledger>(&mut self, ledger: &mut L, out: Out) -> Result<Given, StepFault<L::Stop>>
         requires ledger { L.can_commit ledger.old }
         ensures given { GivesStep result (gives_only self.old out) self.old self.new }
         ensures committed { CommitsStep L.commits_to result (gives_only self.old out) self.old ledger.old ledger.new }
@@ -314,7 +311,7 @@ impl End {
 
 impl Given {
     /// Nothing yet. It takes no memory.
-    fn nothing(alloc: Global) -> Given
+    pub(crate) fn nothing(alloc: Global) -> Given
         ensures { result ≡ record { outputs = []; moves = [] } }
     {
         Given {
@@ -387,16 +384,17 @@ impl End {
         &mut self,
         ledger: &mut L,
         env: &mut Env,
-        event: &Event,
+        task: &Task<'_>,
         id: u32,
     ) -> Result<(), StepFault<L::Stop>>
         requires ledger { L.can_commit ledger.old }
         requires there { IsSome (at self.old.tunnels id) }
+        requires id { HasId task.now }
         requires drawing { env.old.ids ≡ drawing_of self.old }
         requires begun { env.old.changes ≡ [] }
-        ensures made { OnOk result (behind_given (given_in env.old) (in_main self.old env.old event.now id (at self.old.tunnels id)) ≡ record { end = self.new; outputs = env.new.outputs; moves = env.new.moves }) }
+        ensures made { OnOk result (behind_given (given_in env.old) (in_task self.old env.old task.now id (at self.old.tunnels id)) ≡ record { end = self.new; outputs = env.new.outputs; moves = env.new.moves }) }
         ensures same { OnErr result (self.new ≡ self.old) }
-        ensures committed { Commits L.commits_to result (contents_of self.old (behind_given (given_in env.old) (in_main self.old env.old event.now id (at self.old.tunnels id)))) ledger.old ledger.new }
+        ensures committed { Commits L.commits_to result (contents_of self.old (behind_given (given_in env.old) (in_task self.old env.old task.now id (at self.old.tunnels id)))) ledger.old ledger.new }
         ensures role { self.new.role ≡ self.old.role }
     {
         let planned = plan_main(
@@ -408,7 +406,7 @@ impl End {
             &mut self.calls,
             env,
             id,
-            event,
+            task,
         )?;
         make_main(
             &mut self.tunnels,
@@ -419,12 +417,38 @@ impl End {
         );
         self.tunnel_ids = env.tunnels;
         self.session_ids = env.sessions;
+        self.recovery_ids = env.recoveries;
         Ok(())
     }
 
-    /// Makes a step of the tunnel with this id, if there is one, behind what was given before. Where memory is wanting, nothing
-    /// is given at all.
-    #[tactic(auto, using(tunnel_table::specs::Tunnels::at_tunnels), unfolding(end_model::specs::End::in_main))]
+    /// Makes a step of the tunnel with this id about this, if there is one, behind what was given before. Where memory is wanting,
+    /// nothing is given at all.
+    #[tactic(auto, using(tunnel_table::specs::Tunnels::at_tunnels))]
+    pub(crate) fn run_task<L: Ledger>(
+        &mut self,
+        ledger: &mut L,
+        moment: u64,
+        block: [u8; 16],
+        task: &Task<'_>,
+        id: u32,
+        first: Given,
+    ) -> Result<Given, StepFault<L::Stop>>
+        requires ledger { L.can_commit ledger.old }
+        requires id { HasId task.now }
+        ensures given { GivesStep result (behind_given first (in_task self.old (env_of self.old moment block) task.now id (at self.old.tunnels id))) self.old self.new }
+        ensures committed { CommitsStep L.commits_to result (behind_given first (in_task self.old (env_of self.old moment block) task.now id (at self.old.tunnels id))) self.old ledger.old ledger.new }
+        ensures role { self.new.role ≡ self.old.role }
+    {
+        if !self.tunnels.contains(id) {
+            return self.drop_behind(ledger, first, Why::Tunnel);
+        }
+        let mut env = self.env_behind(moment, block, first);
+        self.take_step(ledger, &mut env, task, id)?;
+        Ok(Given::of(env))
+    }
+
+    /// Makes a step of the tunnel with this id, if there is one, behind what was given before.
+    #[tactic(auto, unfolding(end_model::specs::End::in_main))]
     pub(crate) fn run_behind<L: Ledger>(
         &mut self,
         ledger: &mut L,
@@ -439,12 +463,7 @@ impl End {
         ensures committed { CommitsStep L.commits_to result (behind_given first (in_main self.old (env_of self.old moment block) event.now id (at self.old.tunnels id))) self.old ledger.old ledger.new }
         ensures role { self.new.role ≡ self.old.role }
     {
-        if !self.tunnels.contains(id) {
-            return self.drop_behind(ledger, first, Why::Tunnel);
-        }
-        let mut env = self.env_behind(moment, block, first);
-        self.take_step(ledger, &mut env, event, id)?;
-        Ok(Given::of(env))
+        self.run_task(ledger, moment, block, &Task::Event(event), id, first)
     }
 }
 
@@ -493,6 +512,7 @@ impl End {
         }
         self.tunnel_ids = env.tunnels;
         self.session_ids = env.sessions;
+        self.recovery_ids = env.recoveries;
         Ok(())
     }
 
@@ -538,113 +558,6 @@ impl End {
             return self.only(ledger, refusal);
         }
         self.run_new(ledger, moment, block, event, None, peer)
-    }
-
-    /// The least tunnel to a peer that has assigned this id.
-    fn known_as(&self, peer: u32, remote: u16) -> Result<Option<u32>, NoMemory>
-        ensures { IfOk result (λ found. found ≡ known_as peer remote self.now.tunnels) }
-    {
-        self.tunnels.known_as(self.alloc, peer, remote)
-    }
-
-    /// An SCCRQ that comes again is for the tunnel that it opened, and a StopCCN that names none for the one whose peer assigned the id
-    /// that it tells.
-    #[tactic(auto, unfolding(end_model::specs::End::opens_once))]
-    fn open_once(&self, peer: u32, to: Addressee) -> Result<Addressee, NoMemory>
-        ensures { IfOk result (λ a. a ≡ opens_once self.now peer to) }
-    {
-        let (remote, otherwise) = match to {
-            Addressee::Opens { remote } => (remote, to),
-            Addressee::Stops { remote } => (remote, Addressee::Nobody { why: Why::Tunnel }),
-            Addressee::Answers { .. } | Addressee::Main { .. } | Addressee::Nobody { .. } => {
-                return Ok(to);
-            }
-        };
-        match self.known_as(peer, remote)? {
-            Some(tunnel) => Ok(Addressee::Main { tunnel }),
-            None => Ok(otherwise),
-        }
-    }
-
-    /// What a control message is for.
-    #[tactic(auto, using(tunnel_table::specs::Tunnels::at_tunnels), unfolding(end_model::specs::End::addressed, end_model::specs::Reading::at_tunnel))]
-    fn addressed(&self, peer: u32, header: &Header, body: &Body<'_>) -> Result<Addressee, NoMemory>
-        ensures { IfOk result (λ to. to ≡ addressed self.now peer header.now body.now) }
-    {
-        if header.tunnel == 0 {
-            let to = at_zero(body)?;
-            return self.open_once(peer, to);
-        }
-        let tunnel = u32::from(header.tunnel);
-        match self.tunnel(tunnel) {
-            None => Ok(Addressee::Nobody { why: Why::Tunnel }),
-            Some(core) => {
-                if core.control().peer == peer {
-                    Ok(Addressee::Main { tunnel })
-                } else {
-                    Ok(Addressee::Nobody { why: Why::Peer })
-                }
-            }
-        }
-    }
-
-    /// The tunnel that a datagram of which nothing is hidden is for, where it is a control message and there is one.
-    #[tactic(auto, using(tunnel_table::specs::Tunnels::at_tunnels), unfolding(end_model::specs::End::reached_plain, end_model::specs::End::reached_by, end_model::specs::End::main_of))]
-    fn reached_plain(&self, peer: u32, datagram: &Datagram) -> Result<Option<Control>, NoMemory>
-        ensures { IfOk result (λ found. found ≡ reached_plain self.now peer datagram.now) }
-    {
-        let Ok(header) = datagram.header() else {
-            return Ok(None);
-        };
-        if !header.control {
-            return Ok(None);
-        }
-        let body = datagram.body(&header);
-        match self.addressed(peer, &header, &body)? {
-            Addressee::Main { tunnel } => Ok(self.tunnel(tunnel).map(|core| *core.control())),
-            Addressee::Opens { .. }
-            | Addressee::Stops { .. }
-            | Addressee::Answers { .. }
-            | Addressee::Nobody { .. } => Ok(None),
-        }
-    }
-
-    /// A datagram as the end reads it by its secret, None where it is as it came.
-    fn plain_datagram(&self, datagram: &Datagram) -> Result<Option<Datagram>, NoMemory>
-        ensures { IfOk result (λ r. unwrap_or r datagram.now ≡ uncovered_datagram self.now.config.secret datagram.now) }
-    {
-        match uncover_datagram(self.alloc, &self.config.secret, datagram)? {
-            None => Ok(None),
-            Some(bytes) => Ok(Some(Datagram::read(self.alloc, bytes))),
-        }
-    }
-
-    /// The tunnel that a datagram from a peer is for, as the end reads it by its secret, where it is a control message and
-    /// there is one.
-    pub fn reached(&self, peer: u32, datagram: &Datagram) -> Result<Option<Control>, NoMemory>
-        ensures { IfOk result (λ found. found ≡ reached self.now peer datagram.now) }
-    {
-        match self.plain_datagram(datagram)? {
-            None => self.reached_plain(peer, datagram),
-            Some(plain) => self.reached_plain(peer, &plain),
-        }
-    }
-
-    /// An event as the end reads it: a datagram whose hidden values its secret uncovers is one with those values in plain
-    /// (RFC 2661 section 4.3). None where it is as it came. Where memory is wanting, nothing changes.
-    pub fn plain_event(&self, event: &Event) -> Result<Option<Event>, NoMemory>
-        ensures { IfOk result (λ r. unwrap_or r event.now ≡ uncovered_event self.now.config.secret event.now) }
-    {
-        let Event::Datagram { peer, datagram } = event else {
-            return Ok(None);
-        };
-        match self.plain_datagram(datagram)? {
-            None => Ok(None),
-            Some(datagram) => Ok(Some(Event::Datagram {
-                peer: *peer,
-                datagram,
-            })),
-        }
     }
 
     /// An SCCRQ opens a tunnel, or is declined where something stands against it. What it says is worked out once.
@@ -706,6 +619,10 @@ impl End {
             ),
             Addressee::Stops { .. } => self.drop_with(ledger, Why::Tunnel),
             Addressee::Main { tunnel } => self.run_main(ledger, moment, block, event, tunnel),
+            Addressee::Recovery { tunnel } => {
+                self.run_recovery(ledger, moment, block, header, body, tunnel)
+            }
+            Addressee::Recovers { .. } => self.recover(ledger, moment, block, peer, nr, body),
             Addressee::Nobody { why } => self.drop_with(ledger, why),
         }
     }
@@ -715,6 +632,13 @@ impl End {
         ensures { IfOk result (λ found. found ≡ least_in state peer self.now.tunnels) }
     {
         self.tunnels.least_in(self.alloc, state, peer)
+    }
+
+    /// Whether a tunnel to a peer is frozen or restored.
+    pub fn are_recovering(&self, peer: u32) -> Result<bool, NoMemory>
+        ensures { IfOk result (λ found. found ≡ are_recovering peer self.now.tunnels) }
+    {
+        self.tunnels.are_recovering(self.alloc, peer)
     }
 
     /// An event of a call goes to the call's tunnel.

@@ -15,7 +15,7 @@ use l2tp_header::Header;
 use session_looks::{Way, carry_look, frame_of};
 use std::alloc::Global;
 use step_ledger::{Ledger, StepFault};
-use tunnel_core::{Moves, Outputs};
+use tunnel_table::{Moves, Outputs};
 use wire_base::{Bytes, NoMemory, Side};
 
 /// A frame is handed up, which is told.

@@ -5,13 +5,17 @@
 //! wanting or the ledger stops, the end is as before.
 #![tactic(auto)]
 
+mod addressing;
 mod declining;
 mod end;
 mod frames;
+mod keeping;
 mod planning;
+mod recovering;
 mod rows;
 mod starting;
 mod ticks;
 
 pub use end::{End, Given};
-pub use rows::{CallRow, CallTable, EndRows, Mode, TunnelRow};
+pub use rows::{CallRow, CallTable, EndRows, TunnelRow};
+pub use tunnel_table::{CallRows, Moves, Outputs, Rows, TunnelCore};

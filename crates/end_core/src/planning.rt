@@ -1,20 +1,21 @@
 //! A step of one tunnel of an end: it is planned, what it leaves is committed, and only then it is made.
 
-ghost use Rattle.std.specs.Prelude.{◌≡◌, ◌≢◌, IfOk, OnOk, IsSome};
+ghost use Rattle.std.specs.Prelude.{◌≡◌, ◌≢◌, None, IfOk, OnOk, IsSome};
 ghost use Rattle.std.specs.Option.{option_copied};
 ghost use Rattle.tunnel_fsm.specs.declared.table.TunnelState.TheVariants.{Idle};
+ghost use Rattle.end_model.specs.declared.tunnel.Mode.TheVariants.{Current};
 ghost use Rattle.end_core.specs.Saying.{IsSaidBy};
 ghost use Rattle.id_table.specs.Ids.{at};
 ghost use Rattle.id_table.specs.Tables.{HasRoom};
 ghost use Rattle.call_places.specs.Rooms.{HaveRoom};
 ghost use Rattle.end_model.specs.Turn.{with_turn};
 ghost use Rattle.end_model.specs.End.{tunnels_after, placed, with_looks};
-ghost use Rattle.tunnel_core.specs.Cores.{tunnel_of, made_of, IsTurn, HasRoomFor};
-ghost use Rattle.tunnel_table.specs.Plans.{turn_at, IsPlanned, IsGiven, HasPlace, after_plan};
+ghost use Rattle.tunnel_table.specs.Cores.{tunnel_of, made_of, beside, HasId, IsTurn, HasRoomFor};
+ghost use Rattle.tunnel_table.specs.Plans.{IsPlanned, IsGiven, HasPlace, after_plan};
 ghost use Rattle.tunnel_table.specs.Tunnels.{tunnels_of};
 ghost use Rattle.step_ledger.specs.Committing.{Commits};
 ghost use Rattle.step_records.specs.Leaving.{leaves};
-ghost use Rattle.end_core.specs.Gives.{drawn_behind, drawn_first, first_leaves, main_leaves};
+ghost use Rattle.end_core.specs.Gives.{drawn_first, first_turn, first_leaves, main_leaves};
 
 use call_places::{change_looks, make_places, place_all};
 use control_message::Message;
@@ -24,8 +25,7 @@ use session_looks::CellChange;
 use std::alloc::Global;
 use step_ledger::{Ledger, StepFault};
 use step_records::{Spaces, commit_step};
-use tunnel_core::{Env, Planned, TunnelCore};
-use tunnel_table::TunnelTable;
+use tunnel_table::{Env, Planned, Task, TunnelCore, TunnelTable};
 use wire_base::{NoMemory, Why};
 
 /// Where a step draws its numbers from that works in this environment.
@@ -36,17 +36,6 @@ pub(crate) fn spaces_of(env: &Env) -> Spaces
         tunnels: env.tunnels,
         sessions: env.sessions,
         recoveries: env.recoveries,
-    }
-}
-
-/// Where an end draws its numbers from behind a step that worked in this environment, where it drew from these spaces before it.
-fn spaces_behind(before: &Spaces, env: &Env) -> Spaces
-    ensures { result ≡ drawn_behind before.now env.now }
-{
-    Spaces {
-        tunnels: env.tunnels,
-        sessions: env.sessions,
-        recoveries: before.recoveries,
     }
 }
 
@@ -62,14 +51,14 @@ fn commit_planned<L: Ledger>(
     requires { L.can_commit ledger.old }
     ensures places { places.new.entries ≡ places.old.entries }
     ensures room { OnOk result (HaveRoom places.new planned.now.added) }
-    ensures committed { Commits L.commits_to result (leaves before.now (drawn_behind before.now env.now) env.now.moves) ledger.old ledger.new }
+    ensures committed { Commits L.commits_to result (leaves before.now env.now.ids env.now.moves) ledger.old ledger.new }
 {
     make_places(places, planned.added())?;
-    let after = spaces_behind(before, env);
+    let after = spaces_of(env);
     commit_step(alloc, ledger, before, &after, env.moves.as_slice())
 }
 
-/// Plans a step of the tunnel with this id, makes room for the places of the calls that it makes, and commits what it leaves. What the
+/// Plans a step of the tunnel with this id about this, makes room for the places of the calls that it makes, and commits what it leaves. What the
 /// tunnels and the places stand for is as before.
 pub(crate) fn plan_main<L: Ledger>(
     ledger: &mut L,
@@ -80,20 +69,21 @@ pub(crate) fn plan_main<L: Ledger>(
     places: &mut Table<CallPlace>,
     env: &mut Env,
     id: u32,
-    event: &Event,
+    task: &Task<'_>,
 ) -> Result<Planned, StepFault<L::Stop>>
     requires ledger { L.can_commit ledger.old }
     requires there { IsSome (at tunnels.old.entries id) }
+    requires id { HasId task.now }
     ensures tunnels { tunnels_of tunnels.new.entries ≡ tunnels_of tunnels.old.entries }
     ensures places { places.new.entries ≡ places.old.entries }
-    ensures planned { IfOk result (λ p. IsPlanned role config.now event.now env.old (at (tunnels_of tunnels.old.entries) id) p) }
-    ensures given { OnOk result (IsGiven role config.now event.now env.old (at (tunnels_of tunnels.old.entries) id) env.new) }
+    ensures planned { IfOk result (λ p. IsPlanned role config.now task.now env.old (at (tunnels_of tunnels.old.entries) id) p) }
+    ensures given { OnOk result (IsGiven role config.now task.now env.old (at (tunnels_of tunnels.old.entries) id) env.new) }
     ensures place { IfOk result (λ p. HasPlace tunnels.new (id, p)) }
     ensures room { IfOk result (λ p. HaveRoom places.new p.added) }
-    ensures committed { Commits L.commits_to result (main_leaves role config.now event.now env.old (at (tunnels_of tunnels.old.entries) id)) ledger.old ledger.new }
+    ensures committed { Commits L.commits_to result (main_leaves role config.now task.now env.old (at (tunnels_of tunnels.old.entries) id)) ledger.old ledger.new }
 {
     let before = spaces_of(env);
-    let planned = tunnels.plan(role, config, env, id, event)?;
+    let planned = tunnels.plan(role, config, env, id, task)?;
     commit_planned(ledger, alloc, places, &before, env, &planned)?;
     Ok(planned)
 }
@@ -107,15 +97,17 @@ fn plan_opening(
     event: &Event,
     said: Option<&Result<Message, Why>>,
 ) -> Result<Planned, NoMemory>
+    requires current { env.old.on.mode ≡ Current }
     requires idle { core.old.control.state ≡ Idle }
+    requires alone { core.old.recovery ≡ None }
     requires said { IsSaidBy (option_copied said) event.now }
     ensures same { tunnel_of core.new ≡ tunnel_of core.old }
-    ensures planned { IfOk result (λ p. IsTurn p (turn_at role config.now event.now env.old (tunnel_of core.old))) }
-    ensures given { OnOk result (env.new ≡ with_turn (turn_at role config.now event.now env.old (tunnel_of core.old)) env.old) }
+    ensures planned { IfOk result (λ p. IsTurn p None (beside None (first_turn role config.now event.now env.old (tunnel_of core.old)))) }
+    ensures given { OnOk result (env.new ≡ with_turn (first_turn role config.now event.now env.old (tunnel_of core.old)) env.old) }
     ensures room { IfOk result (λ p. HasRoomFor core.new p) }
 {
     match said {
-        None => core.plan(role, config, env, event),
+        None => core.plan(role, config, env, &Task::Event(event)),
         Some(said) => core.plan_first(role, config, env, said),
     }
 }
@@ -131,12 +123,14 @@ fn plan_step(
     event: &Event,
     said: Option<&Result<Message, Why>>,
 ) -> Result<Planned, NoMemory>
+    requires current { env.old.on.mode ≡ Current }
     requires idle { core.old.control.state ≡ Idle }
+    requires alone { core.old.recovery ≡ None }
     requires said { IsSaidBy (option_copied said) event.now }
     ensures same { tunnel_of core.new ≡ tunnel_of core.old }
     ensures places { places.new.entries ≡ places.old.entries }
-    ensures planned { IfOk result (λ p. IsTurn p (turn_at role config.now event.now env.old (tunnel_of core.old))) }
-    ensures given { OnOk result (env.new ≡ with_turn (turn_at role config.now event.now env.old (tunnel_of core.old)) env.old) }
+    ensures planned { IfOk result (λ p. IsTurn p None (beside None (first_turn role config.now event.now env.old (tunnel_of core.old)))) }
+    ensures given { OnOk result (env.new ≡ with_turn (first_turn role config.now event.now env.old (tunnel_of core.old)) env.old) }
     ensures room { IfOk result (λ p. HasRoomFor core.new p) }
     ensures calls_room { IfOk result (λ p. HaveRoom places.new p.added) }
 {
@@ -152,6 +146,7 @@ fn commit_new<L: Ledger>(
     alloc: Global,
     tunnels: &mut TunnelTable,
     before: &Spaces,
+    core: &TunnelCore,
     env: &Env,
     planned: &Planned,
 ) -> Result<(), StepFault<L::Stop>>
@@ -164,8 +159,8 @@ fn commit_new<L: Ledger>(
     if local == 0 {
         return commit_step(alloc, ledger, before, before, env.moves.as_slice());
     }
-    tunnels.make_room(u32::from(local), planned)?;
-    let after = spaces_behind(before, env);
+    tunnels.make_room(u32::from(local), core, planned)?;
+    let after = spaces_of(env);
     commit_step(alloc, ledger, before, &after, env.moves.as_slice())
 }
 
@@ -184,21 +179,23 @@ pub(crate) fn plan_first<L: Ledger>(
     said: Option<&Result<Message, Why>>,
 ) -> Result<Planned, StepFault<L::Stop>>
     requires ledger { L.can_commit ledger.old }
+    requires current { env.old.on.mode ≡ Current }
     requires idle { core.old.control.state ≡ Idle }
+    requires alone { core.old.recovery ≡ None }
     requires said { IsSaidBy (option_copied said) event.now }
     ensures tunnels { tunnels.new.entries ≡ tunnels.old.entries }
     ensures places { places.new.entries ≡ places.old.entries }
     ensures same { tunnel_of core.new ≡ tunnel_of core.old }
-    ensures planned { IfOk result (λ p. IsTurn p (turn_at role config.now event.now env.old (tunnel_of core.old))) }
-    ensures given { OnOk result (env.new ≡ with_turn (turn_at role config.now event.now env.old (tunnel_of core.old)) env.old) }
+    ensures planned { IfOk result (λ p. IsTurn p None (beside None (first_turn role config.now event.now env.old (tunnel_of core.old)))) }
+    ensures given { OnOk result (env.new ≡ with_turn (first_turn role config.now event.now env.old (tunnel_of core.old)) env.old) }
     ensures tunnel_room { IfOk result (λ p. p.control.local ≢ 0 → HasRoom tunnels.new p.control.local) }
     ensures core_room { IfOk result (λ p. HasRoomFor core.new p) }
     ensures calls_room { IfOk result (λ p. HaveRoom places.new p.added) }
-    ensures committed { Commits L.commits_to result (first_leaves env.old (turn_at role config.now event.now env.old (tunnel_of core.old))) ledger.old ledger.new }
+    ensures committed { Commits L.commits_to result (first_leaves env.old (first_turn role config.now event.now env.old (tunnel_of core.old))) ledger.old ledger.new }
 {
     let before = spaces_of(env);
     let planned = plan_step(core, places, role, config, env, event, said)?;
-    commit_new(ledger, alloc, tunnels, &before, env, &planned)?;
+    commit_new(ledger, alloc, tunnels, &before, core, env, &planned)?;
     Ok(planned)
 }
 
@@ -209,6 +206,25 @@ fn place_calls(places: &mut Table<CallPlace>, planned: &Planned, changes: &[Cell
 {
     place_all(places, planned.local(), planned.added());
     change_looks(places, changes);
+}
+
+/// Puts a tunnel that was kept at its id, as it is after what was planned for it, with its calls. It takes no memory.
+pub(crate) fn make_kept(
+    tunnels: &mut TunnelTable,
+    places: &mut Table<CallPlace>,
+    id: u32,
+    core: TunnelCore,
+    planned: Planned,
+    changes: &[CellChange],
+)
+    requires tunnel_room { HasRoom tunnels.old id }
+    requires core_room { HasRoomFor core planned }
+    requires calls_room { HaveRoom places.old planned.added }
+    ensures tunnels { tunnels_of tunnels.new.entries ≡ tunnels_after (tunnels_of tunnels.old.entries) id planned.cleared (made_of planned (tunnel_of core)) }
+    ensures places { places.new.entries ≡ with_looks changes.now (placed planned.control.local planned.added places.old.entries) }
+{
+    place_calls(places, &planned, changes);
+    tunnels.make_new(id, core, planned);
 }
 
 /// Makes the planned step of the tunnel with this id. It takes no memory.

@@ -2,26 +2,17 @@
 
 ghost use Rattle.std.specs.Prelude.{◌≡◌, ◌++◌, ◌∷◌, [], IfOk, OnOk, Some};
 ghost use Rattle.id_table.specs.Ids.{at};
-ghost use Rattle.tunnel_core.specs.Cores.{tunnel_of};
+ghost use Rattle.tunnel_table.specs.Cores.{tunnel_of};
 ghost use Rattle.end_core.specs.Rows.{rows_at, tunnel_rows, call_rows, calls_at};
 
 use crate::end::End;
 use call_fsm::CallState;
-use end_model::Call;
+use end_model::{Call, Mode};
 use id_table::Table;
 use std::alloc::Global;
-use tunnel_core::TunnelCore;
 use tunnel_fsm::TunnelState;
+use tunnel_table::TunnelCore;
 use wire_base::{NoMemory, Sequence};
-
-/// Whether a tunnel works, answers a recovery, or was kept over a start and isn't recovered yet (RFC 4951). As long as nothing is
-/// kept over a start, each tunnel is current.
-#[derive(Clone, Copy)]
-pub enum Mode {
-    Current,
-    Frozen,
-    Restored,
-}
 
 /// A call of a tunnel.
 #[derive(Clone, Copy)]
@@ -47,7 +38,8 @@ pub struct TunnelRow {
     pub remote: u16,
     pub state: TunnelState,
     pub mode: Mode,
-    /// Whether the ends have told each other which calls they kept; that is so of each tunnel that wasn't recovered.
+    /// Whether the ends have told each other which calls they kept, behind a recovery: no end asks the other one for its calls, so that
+    /// there is nothing to tell.
     pub complete: bool,
     pub calls: CallTable,
 }
@@ -83,7 +75,7 @@ fn tunnel_row(alloc: Global, core: &TunnelCore) -> Result<TunnelRow, NoMemory>
         peer: control.peer,
         remote: control.remote,
         state: control.state,
-        mode: Mode::Current,
+        mode: core.mode(),
         complete: true,
         calls: call_rows(alloc, core.calls())?,
     })

@@ -20,8 +20,7 @@ use end_model::{Config, Event, Role};
 use std::alloc::Global;
 use step_ledger::{Ledger, StepFault};
 use step_records::commit_step;
-use tunnel_core::{Env, Planned};
-use tunnel_table::TunnelTable;
+use tunnel_table::{Env, Planned, Task, TunnelTable};
 use wire_base::{NoMemory, Sequence};
 
 /// What is planned for tunnels, by their ids.
@@ -42,7 +41,7 @@ fn plan_at(
     ensures place { IfOk result (λ p. HasPlace tunnels.new (id, p)) }
     ensures given { OnOk result (env.new ≡ with_ticks (tick_at role config.now tunnels.old.entries env.old id) env.old) }
 {
-    tunnels.plan(role, config, env, id, &Event::Tick)
+    tunnels.plan(role, config, env, id, &Task::Event(&Event::Tick))
 }
 
 /// Plans the turns of these tunnels, and makes room for them. What the tunnels stand for is as before.

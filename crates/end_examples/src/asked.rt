@@ -3,8 +3,8 @@
 
 use crate::tables::push_cell;
 use bench_examples::{Bench, Fault, id_of, push_number};
-use end_core::{CallRow, Mode, TunnelRow};
-use end_model::node_of;
+use end_core::{CallRow, TunnelRow};
+use end_model::{Mode, node_of};
 use session_looks::Look;
 use std::alloc::Global;
 use tunnel_core::{CallRows, TunnelCore};

@@ -1,5 +1,6 @@
 -- What Ethernet frames are to a LAC, which PPPoE hosts come to (RFC 2516).
-use Rattle.std.specs.Prelude.{ℕ, ◌-◌, ◌%◌, List, [], ◌∷◌, length, take, drop, Bool, true, false, nat_lt, if◌then◌else◌, Option, Some, None, is_some, Result, Ok, Err}
+use Rattle.std.specs.Cmp.Lexicographic.{pointwise}
+use Rattle.std.specs.Prelude.{ℕ, nat_eq, ◌-◌, ◌%◌, List, [], ◌∷◌, length, take, drop, Bool, true, false, nat_lt, if◌then◌else◌, Option, Some, None, is_some, Result, Ok, Err}
 use Rattle.id_table.specs.Ids.{at}
 use Rattle.id_source.specs.Spaces.{takes_id}
 use Rattle.id_source.specs.declared.IdError.{IdError}
@@ -9,7 +10,7 @@ use Rattle.wire_base.specs.declared.cause.Cause.{Cause}
 use Rattle.wire_base.specs.declared.cause.Cause.TheVariants as cause
 use Rattle.pppoe_wire.specs.Spelling.{frame_bytes}
 use Rattle.pppoe_session.specs.declared.Subscriber.{Subscriber}
-use Rattle.pppoe_session.specs.Subscribers.{subscriber_of, subscriber, holder_of, admitted, dropped, repeat_in, is_from}
+use Rattle.pppoe_session.specs.Subscribers.{subscriber_of, subscriber, holder_of, admitted, dropped, repeat_in}
 use Rattle.pppoe_discovery.specs.declared.outcome.Discovered.{Discovered}
 use Rattle.pppoe_discovery.specs.declared.outcome.Discovered.TheVariants as outcome
 use Rattle.pppoe_discovery.specs.Discovery.{discovered}
@@ -59,9 +60,25 @@ of_call false is ev = Ignores why.Call
 of_call true false ev = Ignores why.Address
 of_call true true ev = Runs ev
 
+-- the host of a call, or that of one that was kept
+abbrev pub or_kept : List (ℕ × Subscriber) → ℕ → Option (List ℕ) → Option (List ℕ)
+or_kept kept session (Some mac) = Some mac
+or_kept kept session None = holder_of kept session
+
+unfoldable pub holder : Access → ℕ → Option (List ℕ)
+holder a session = or_kept a.kept session (holder_of a.held session)
+
+-- a frame with this source comes from that host
+abbrev pub is_mac : List ℕ → Option (List ℕ) → Bool
+is_mac src None = false
+is_mac src (Some mac) = pointwise nat_eq mac src
+
+abbrev pub is_host : Access → List ℕ → ℕ → Bool
+is_host a src session = is_mac src (holder a session)
+
 -- the call is to be live, and its host the source
 abbrev pub about_call : Access → End → List ℕ → ℕ → Event → Coming
-about_call a e src session ev = of_call (is_some (at e.calls session)) (is_from src (subscriber_of a.held session)) ev
+about_call a e src session ev = of_call (is_some (at e.calls session)) (is_host a src session) ev
 
 -- ---- hosts that want a call
 
@@ -102,6 +119,7 @@ abbrev pub ring_cause : Cause → Cause
 ring_cause cause.Tunnels = cause.Tunnels
 ring_cause cause.Calls = cause.Calls
 ring_cause cause.Queue = cause.Queue
+ring_cause cause.Recovering = cause.Recovering
 ring_cause other = cause.Ids
 
 -- why it was, by what the step gave
@@ -138,14 +156,6 @@ entered a before src uniq s = with_host a src uniq (session_got before s)
 abbrev pub padt_to : ℕ → ℕ → Option (List ℕ) → Option (List ℕ)
 padt_to n session None = None
 padt_to n session (Some mac) = Some (frame_bytes (padt (mac_of n) mac session))
-
--- the host of a call, or that of one that was kept
-abbrev pub or_kept : List (ℕ × Subscriber) → ℕ → Option (List ℕ) → Option (List ℕ)
-or_kept kept session (Some mac) = Some mac
-or_kept kept session None = holder_of kept session
-
-unfoldable pub holder : Access → ℕ → Option (List ℕ)
-holder a session = or_kept a.kept session (holder_of a.held session)
 
 -- the PADT to its host, where a host had it; a session id has 16 bits
 unfoldable pub farewell : ℕ → Access → ℕ → Option (List ℕ)

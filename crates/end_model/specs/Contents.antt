@@ -3,7 +3,7 @@ use Rattle.std.specs.Prelude.{ℕ, ◌+◌, ◌-◌, ◌*◌, ◌/◌, min, List
 use Rattle.std.specs.List.{flat_map}
 use Rattle.id_source.specs.Spaces.{Space, counting_from}
 use Rattle.session_book.specs.declared.record.Record.{Record}
-use Rattle.session_book.specs.declared.record.Record.TheVariants.{Ceiling, TunnelUp, TunnelDown, CallUp, CallDown}
+use Rattle.session_book.specs.declared.record.Record.TheVariants.{Ceiling, TunnelUp, TunnelDown, CallUp, CallDown, Mark}
 use Rattle.end_model.specs.declared.moves.Move.{Move}
 use Rattle.end_model.specs.declared.moves.Move.TheVariants as move
 use Rattle.end_model.specs.End.{End, Stepped}
@@ -22,6 +22,10 @@ abbrev pub call_down : Bool → ℕ → List Record
 call_down true s = CallDown s ∷ []
 call_down false s = []
 
+abbrev pub mark_by : Bool → ℕ → ℕ → List Record
+mark_by true i mark = Mark i mark ∷ []
+mark_by false i mark = []
+
 -- what a move leaves. A tunnel goes with its calls; of a tunnel that is removed after it was closed nothing is there any more
 unfoldable pub records_of : Move → List Record
 records_of (move.Connected m) =
@@ -38,6 +42,9 @@ records_of (move.EndSilent m) = call_down m.booked m.session
 records_of (move.Closed m) = tunnel_down m.booked m.tunnel
 records_of (move.ClosedBy m) = tunnel_down m.booked m.tunnel
 records_of (move.Cleared i booked) = tunnel_down booked i
+records_of (move.Forgot m) = TunnelDown m.tunnel ∷ []
+records_of (move.Froze m) = mark_by m.marked m.tunnel m.asked
+records_of (move.ResetAttempting m) = mark_by m.marked m.tunnel m.draw
 records_of m = []
 
 -- what a step leaves: the ceilings first, by space and then rising, and behind them what its moves leave, in their order

@@ -1,5 +1,5 @@
 -- An end's step.
-use Rattle.std.specs.Prelude.{ℕ, ◌+◌, List, [], ◌∷◌, ◌++◌, find, length, Bool, true, false, not, ◌&&◌, ◌==◌, nat_le, if◌then◌else◌, Option, Some, None, is_some, unwrap_or, option_map, Result, Ok, Err}
+use Rattle.std.specs.Prelude.{ℕ, ◌+◌, List, [], ◌∷◌, ◌++◌, find, length, Bool, true, false, not, ◌&&◌, ◌==◌, nat_le, nat_lt, if◌then◌else◌, Option, Some, None, is_some, unwrap_or, option_map, Result, Ok, Err}
 use Rattle.std.specs.List.{flat_map}
 use Rattle.id_table.specs.Ids.{at, put, without, ids_of}
 use Rattle.id_source.specs.Spaces.{Space, new_space, takes_id}
@@ -34,14 +34,18 @@ use Rattle.end_model.specs.declared.moves.Move.TheVariants as move
 use Rattle.session_looks.specs.Frames.{Carried, Upward, Dropped, carry_look, frame_of, header_why}
 use Rattle.end_model.specs.Calls.{is_lac}
 use Rattle.end_model.specs.declared.event.Addressee.{Addressee}
-use Rattle.end_model.specs.declared.event.Addressee.TheVariants.{Opens, Stops, Answers, Main, Nobody}
+use Rattle.end_model.specs.declared.event.Addressee.TheVariants.{Opens, Stops, Answers, Main, Recovery, Recovers, Nobody}
 use Rattle.end_model.specs.Reading.{message_in, TunnelFault, tunnel_fault_in, at_zero, at_tunnel}
 use Rattle.end_model.specs.Secrets.{lacks_secret, uncovered_datagram, uncovered_event}
-use Rattle.end_model.specs.Tunnels.{Tunnel, Drawing, Env, Turn, turn_of}
+use Rattle.end_model.specs.declared.tunnel.Mode.{Mode}
+use Rattle.end_model.specs.declared.tunnel.Mode.TheVariants.{Current, Restored}
+use Rattle.end_model.specs.Tunnels.{Tunnel, Drawing, Env, Turn, turn_of, turn_in, Recovering, ByAttempt, ByAnswer, connection_of, mode_of, is_current}
+use Rattle.end_model.specs.Recovering.{RecoveryTurn, recovering_turns, hears_recovery, froze, asked_in}
+use Rattle.control_message.specs.declared.message.Recovery.{Recovery as Named}
 use Rattle.end_model.specs.Reasons.{Reason, out_of_order, other_version, no_recovery, no_secret, fault_reason, no_tunnel, no_id}
 use Rattle.end_model.specs.Events.{tunnel_after, turns}
 use Rattle.end_model.specs.Openings.{fresh}
-use Rattle.end_model.specs.Moments.{is_closed}
+use Rattle.end_model.specs.Moments.{is_closed, is_open}
 use Rattle.end_model.specs.declared.out.Origin.{Origin}
 use Rattle.end_model.specs.declared.out.Origin.TheVariants as origin
 use Rattle.l2tp_header.specs.Spelling.{control_bytes}
@@ -92,7 +96,7 @@ drawing_of e = record { tunnels = e.tunnel_ids; sessions = e.session_ids; recove
 
 abbrev pub env_of : End → ℕ → List ℕ → Env
 env_of e moment block = record {
-  on = record { moment = moment; block = block };
+  on = record { moment = moment; block = block; mode = Current };
   ids = drawing_of e;
   outputs = [];
   changes = [];
@@ -143,13 +147,14 @@ abbrev pub tunnels_after : List (ℕ × Tunnel) → ℕ → Bool → Tunnel → 
 tunnels_after tunnels i true t = without tunnels i
 tunnels_after tunnels i false t = put tunnels i t
 
--- a turn of the tunnel with this id, whose letters and calls were these
-unfoldable pub after_turn : End → ℕ → List Letter → List (ℕ × Call) → Turn → Stepped
-after_turn e i letters calls t = record {
+-- a turn of the tunnel with this id, whose letters and calls were these, and which then has this recovery tunnel
+unfoldable pub after_turn : End → ℕ → List Letter → List (ℕ × Call) → Option Recovering → Turn → Stepped
+after_turn e i letters calls recovery t = record {
   end = record e {
     tunnel_ids = t.ids.tunnels;
     session_ids = t.ids.sessions;
-    tunnels = tunnels_after e.tunnels i t.cleared (tunnel_after t letters calls);
+    recovery_ids = t.ids.recoveries;
+    tunnels = tunnels_after e.tunnels i t.cleared (tunnel_after t letters calls recovery);
     calls = with_looks t.changes (placed t.control.local t.added e.calls);
   };
   outputs = t.outputs;
@@ -160,7 +165,7 @@ after_turn e i letters calls t = record {
 unfoldable pub after_new : End → Turn → Stepped
 after_new e t =
     if t.control.local == 0 then record { end = e; outputs = t.outputs; moves = t.moves }
-    else after_turn e t.control.local [] [] t
+    else after_turn e t.control.local [] [] None t
 
 -- an event for a tunnel that is to be made to this peer
 unfoldable pub in_new : End → Env → Event → ℕ → Stepped
@@ -174,10 +179,14 @@ has_all_tunnels tunnels = nat_le 1024 (length tunnels)
 unfoldable pub in_one_more : End → Env → Event → ℕ → Out → Stepped
 in_one_more e env ev peer refusal = if has_all_tunnels e.tunnels then gives_only e refusal else in_new e env ev peer
 
+-- a turn of a tunnel with its recovery tunnel
+abbrev pub after_both : End → ℕ → Tunnel → RecoveryTurn → Stepped
+after_both e i t r = after_turn e i t.letters t.calls r.recovery r.turn
+
 -- an event for the tunnel with this id
 unfoldable pub in_main : End → Env → Event → ℕ → Option Tunnel → Stepped
 in_main e env ev i None = gives_only e (Drop why.Tunnel)
-in_main e env ev i (Some t) = after_turn e i t.letters t.calls (turns e.role e.config t.letters t.calls ev (turn_of t.control env))
+in_main e env ev i (Some t) = after_both e i t (recovering_turns e.role e.config t ev (turn_in t env))
 
 -- ---- time
 
@@ -185,12 +194,12 @@ in_main e env ev i (Some t) = after_turn e i t.letters t.calls (turns e.role e.c
 pub record Turned : Type 0 where
   pub id : ℕ
   pub tunnel : Tunnel
-  pub turn : Turn
+  pub turn : RecoveryTurn
 
 -- each tunnel by itself
 abbrev pub tick_of : End → Env → ℕ → Option Tunnel → List Turned
 tick_of e env i None = []
-tick_of e env i (Some t) = record { id = i; tunnel = t; turn = turns e.role e.config t.letters t.calls Tick (turn_of t.control env) } ∷ []
+tick_of e env i (Some t) = record { id = i; tunnel = t; turn = recovering_turns e.role e.config t Tick (turn_in t env) } ∷ []
 
 unfoldable pub ticks_of : End → Env → List ℕ → List Turned
 ticks_of e env [] = []
@@ -198,10 +207,10 @@ ticks_of e env (i ∷ is) = tick_of e env i (at e.tunnels i) ++ ticks_of e env i
 
 unfoldable pub end_after_all : List Turned → End → End
 end_after_all [] e = e
-end_after_all (t ∷ ts) e = end_after_all ts (after_turn e t.id t.tunnel.letters t.tunnel.calls t.turn).end
+end_after_all (t ∷ ts) e = end_after_all ts (after_both e t.id t.tunnel t.turn).end
 
 unfoldable pub after_all : List Turned → End → Stepped
-after_all ts e = record { end = end_after_all ts e; outputs = flat_map (λ t. t.turn.outputs) ts; moves = flat_map (λ t. t.turn.moves) ts }
+after_all ts e = record { end = end_after_all ts e; outputs = flat_map (λ t. t.turn.turn.outputs) ts; moves = flat_map (λ t. t.turn.turn.moves) ts }
 
 -- by local ids
 unfoldable pub ticks_all : End → Env → Stepped
@@ -222,21 +231,66 @@ abbrev pub opened_before : ℕ → Option ℕ → Addressee
 opened_before remote None = Opens remote
 opened_before remote (Some i) = Main i
 
--- a StopCCN that names no tunnel is for the one whose peer assigned the id that it tells
-abbrev pub stopped_at : Option ℕ → Addressee
-stopped_at None = Nobody why.Tunnel
-stopped_at (Some i) = Main i
+-- ---- recovery tunnels
+
+abbrev pub is_line : ℕ → Option Recovering → Bool
+is_line id None = false
+is_line id (Some r) = (connection_of r).local == id
+
+abbrev pub has_line : ℕ → Option Tunnel → Bool
+has_line id None = false
+has_line id (Some t) = is_line id t.recovery
+
+-- the tunnel whose recovery tunnel has this id
+unfoldable pub recovered_by : ℕ → List (ℕ × Tunnel) → Option ℕ
+recovered_by id tunnels = find (λ i. has_line id (at tunnels i)) (ids_of tunnels)
+
+-- an answer to the peer's attempt with this id
+abbrev pub answers_to : ℕ → Option Recovering → Bool
+answers_to remote None = false
+answers_to remote (Some (ByAttempt c)) = false
+answers_to remote (Some (ByAnswer a)) = a.connection.remote == remote
+
+abbrev pub is_answered : ℕ → ℕ → Option Tunnel → Bool
+is_answered peer remote None = false
+is_answered peer remote (Some t) = t.control.peer == peer && answers_to remote t.recovery
+
+-- the tunnel with the answer to the attempt of a peer with this id
+unfoldable pub answered_to : ℕ → ℕ → List (ℕ × Tunnel) → Option ℕ
+answered_to peer remote tunnels = find (λ i. is_answered peer remote (at tunnels i)) (ids_of tunnels)
+
+-- an SCCRQ that asks for a recovery and comes again is for the answer to it
+abbrev pub answered_before : ℕ → Option ℕ → Addressee
+answered_before remote None = Recovers remote
+answered_before remote (Some i) = Recovery i
+
+-- a StopCCN that names no tunnel is for the one whose peer assigned the id that it tells, or for the answer to the attempt with that id
+abbrev pub stopped_at : Option ℕ → Option ℕ → Addressee
+stopped_at (Some i) answer = Main i
+stopped_at None (Some i) = Recovery i
+stopped_at None None = Nobody why.Tunnel
 
 unfoldable pub opens_once : End → ℕ → Addressee → Addressee
 opens_once e peer (Opens remote) = opened_before remote (known_as peer remote e.tunnels)
-opens_once e peer (Stops remote) = stopped_at (known_as peer remote e.tunnels)
+opens_once e peer (Recovers remote) = answered_before remote (answered_to peer remote e.tunnels)
+opens_once e peer (Stops remote) = stopped_at (known_as peer remote e.tunnels) (answered_to peer remote e.tunnels)
 opens_once e peer a = a
+
+-- the recovery tunnel of a tunnel to the peer
+abbrev pub at_line : ℕ → ℕ → Option Tunnel → Addressee
+at_line peer i None = Nobody why.Tunnel
+at_line peer i (Some t) = if t.control.peer == peer then Recovery i else Nobody why.Peer
+
+abbrev pub at_recovery : End → ℕ → Option ℕ → Addressee
+at_recovery e peer None = Nobody why.Tunnel
+at_recovery e peer (Some i) = at_line peer i (at e.tunnels i)
 
 -- what a control message is for
 unfoldable pub addressed : End → ℕ → Header → List ℕ → Addressee
 addressed e peer h body =
     if h.tunnel == 0 then opens_once e peer (at_zero body)
-    else at_tunnel peer h.tunnel (option_map (λ t. t.control.peer) (at e.tunnels h.tunnel))
+    else if is_some (at e.tunnels h.tunnel) then at_tunnel peer h.tunnel (option_map (λ t. t.control.peer) (at e.tunnels h.tunnel))
+    else at_recovery e peer (recovered_by h.tunnel e.tunnels)
 
 -- the tunnel that a datagram of a control message is for, where there is one
 unfoldable pub main_of : End → Addressee → Option Control
@@ -256,7 +310,7 @@ reached e peer bytes = reached_plain e peer (uncovered_datagram e.config.secret 
 
 -- ---- openings that are declined
 
--- what stands against an SCCRQ that would open a tunnel, the first that counts: its version, a recovery, as many tunnels as there may
+-- what stands against an SCCRQ that would open a tunnel, the first that counts: its version, as many tunnels as there may
 -- be, a challenge to an end that has no secret, or no id that is left
 abbrev pub lacks_id : Result ℕ IdError → Option Reason
 lacks_id (Ok i) = None
@@ -265,7 +319,6 @@ lacks_id (Err x) = Some no_id
 unfoldable pub against_opening : End → Opening → Option Reason
 against_opening e o =
     if not (o.version == 256) then Some other_version
-    else if is_some o.recovery then Some no_recovery
     else if has_all_tunnels e.tunnels then Some no_tunnel
     else if lacks_secret e.config.secret o.challenge then Some no_secret
     else lacks_id (takes_id e.tunnel_ids)
@@ -306,26 +359,84 @@ unfoldable pub opens_or_declines : End → Env → Event → ℕ → ℕ → ℕ
 opens_or_declines e env ev peer remote nr None = in_new e env ev peer
 opens_or_declines e env ev peer remote nr (Some r) = declined e peer remote nr r
 
+-- ---- recoveries
+
+-- a control message for the recovery tunnel of a tunnel
+unfoldable pub in_recovery : End → Env → Header → List ℕ → ℕ → Option Tunnel → Stepped
+in_recovery e env h body i None = gives_only e (Drop why.Tunnel)
+in_recovery e env h body i (Some t) = after_both e i t (hears_recovery e.config t.letters t.calls h body t.recovery (turn_in t env))
+
+-- a LAC goes on with its own attempt where its peer attempts the same
+abbrev pub is_restored : Mode → Bool
+is_restored Restored = true
+is_restored m = false
+
+abbrev pub is_tied : Role → Tunnel → Bool
+is_tied r t = is_lac r && is_restored (mode_of t.recovery)
+
+-- an established tunnel to the peer with these ids of both ends
+abbrev pub is_recoverable : ℕ → ℕ → Tunnel → Bool
+is_recoverable peer remote t = is_open t.control.state && (t.control.peer == peer && t.control.remote == remote)
+
+-- where no id is left it is declined, and nothing is drawn
+unfoldable pub freezes : End → Env → ℕ → ℕ → Opening → ℕ → Tunnel → Result ℕ IdError → Result ℕ IdError → Stepped
+freezes e env peer nr o i t (Ok local) (Ok draw) =
+    after_both e i t (froze e.role e.config t.calls o local draw (turn_in t env))
+freezes e env peer nr o i t local draw = declined e peer o.tunnel nr no_id
+
+unfoldable pub recovers_tunnel : End → Env → ℕ → ℕ → Opening → ℕ → Option Tunnel → ℕ → Stepped
+recovers_tunnel e env peer nr o i None sender = declined e peer o.tunnel nr no_recovery
+recovers_tunnel e env peer nr o i (Some t) sender =
+    if not (is_recoverable peer sender t) then declined e peer o.tunnel nr no_recovery
+    else if is_tied e.role t then gives_only e (Drop why.Tie)
+    else if nat_lt (asked_in o) t.control.mark then gives_only e (Drop why.Mark)
+    else if lacks_secret e.config.secret o.challenge then declined e peer o.tunnel nr no_secret
+    else freezes e env peer nr o i t (takes_id env.ids.tunnels) (takes_id env.ids.recoveries)
+
+unfoldable pub recovers_by : End → Env → ℕ → ℕ → Opening → Option Named → Stepped
+recovers_by e env peer nr o None = declined e peer o.tunnel nr no_recovery
+recovers_by e env peer nr o (Some named) =
+    if not (o.version == 256) then declined e peer o.tunnel nr other_version
+    else recovers_tunnel e env peer nr o named.receiver (at e.tunnels named.receiver) named.sender
+
+-- an SCCRQ that asks for a recovery which isn't answered yet
+unfoldable pub recovers : End → Env → ℕ → ℕ → Result Message Why → Stepped
+recovers e env peer nr (Ok (Sccrq o)) = recovers_by e env peer nr o o.recovery
+recovers e env peer nr m = gives_only e (Drop why.Tunnel)
+
 unfoldable pub for_addressee : End → Env → Event → ℕ → Header → List ℕ → Addressee → Stepped
 for_addressee e env ev peer h body (Opens remote) = opens_or_declines e env ev peer remote (next_of_peer h) (against_body e body)
 for_addressee e env ev peer h body (Stops remote) = gives_only e (Drop why.Tunnel)
 for_addressee e env ev peer h body (Answers remote) = declined e peer remote (next_of_peer h) out_of_order
 for_addressee e env ev peer h body (Main i) = in_main e env ev i (at e.tunnels i)
+for_addressee e env ev peer h body (Recovery i) = in_recovery e env h body i (at e.tunnels i)
+for_addressee e env ev peer h body (Recovers remote) = recovers e env peer (next_of_peer h) (message_in body)
 for_addressee e env ev peer h body (Nobody w) = gives_only e (Drop w)
 
 abbrev pub is_in : TunnelState → ℕ → Option Tunnel → Bool
 is_in s peer None = false
-is_in s peer (Some t) = state_number t.control.state == state_number s && t.control.peer == peer
+is_in s peer (Some t) = (state_number t.control.state == state_number s && t.control.peer == peer) && is_current (mode_of t.recovery)
 
 -- the least tunnel to a peer that is in a state
 unfoldable pub least_in : TunnelState → ℕ → List (ℕ × Tunnel) → Option ℕ
 least_in s peer tunnels = find (λ i. is_in s peer (at tunnels i)) (ids_of tunnels)
 
--- a ring goes over the least tunnel to the LNS that is open, else over the least that is to open, else over a new one
+abbrev pub is_recovering : ℕ → Option Tunnel → Bool
+is_recovering peer None = false
+is_recovering peer (Some t) = t.control.peer == peer && not (is_current (mode_of t.recovery))
+
+-- whether a tunnel to a peer is frozen or restored
+unfoldable pub are_recovering : ℕ → List (ℕ × Tunnel) → Bool
+are_recovering peer tunnels = is_some (find (λ i. is_recovering peer (at tunnels i)) (ids_of tunnels))
+
+-- a ring goes over the least tunnel to the LNS that is open, else over the least that is to open; else it waits for none that is
+-- recovered, and goes over a new one where there is no such tunnel
 unfoldable pub rings_in : End → Env → Event → Option ℕ → Option ℕ → Stepped
 rings_in e env ev (Some i) opening = in_main e env ev i (at e.tunnels i)
 rings_in e env ev None (Some i) = in_main e env ev i (at e.tunnels i)
-rings_in e env ev None None = in_one_more e env ev e.config.lns (Cause cause.Tunnels)
+rings_in e env ev None None =
+    if are_recovering e.config.lns e.tunnels then gives_only e (Cause cause.Recovering)
+    else in_one_more e env ev e.config.lns (Cause cause.Tunnels)
 
 unfoldable pub rings_at : End → Env → Event → Stepped
 rings_at e env ev = rings_in e env ev (least_in Established e.config.lns e.tunnels) (least_in WaitCtlReply e.config.lns e.tunnels)

@@ -14,7 +14,7 @@ use Rattle.end_names.specs.declared.role.Role.{Role}
 use Rattle.end_model.specs.declared.event.Event.{Event}
 use Rattle.end_model.specs.declared.event.Event.TheVariants.{Datagram, Ring, Frame, Admitted, Payload, Lower, Lcp, Hang, OpenTunnel, DropCall, CloseTunnel}
 use Rattle.end_model.specs.declared.event.Event.TheVariants as event_of
-use Rattle.end_model.specs.Tunnels.{Tunnel, Turn, new_tunnel}
+use Rattle.end_model.specs.Tunnels.{Tunnel, Turn, Recovering, new_tunnel}
 use Rattle.end_names.specs.Names.{subscriber}
 use Rattle.end_model.specs.Turn.{drops}
 use Rattle.end_model.specs.Sending.{letters_after, settles}
@@ -52,5 +52,6 @@ unfoldable pub with_calls : List (ℕ × Option Call) → List (ℕ × Call) →
 with_calls [] calls = calls
 with_calls (c ∷ cs) calls = with_calls cs (changed_at calls c.0 c.1)
 
-abbrev pub tunnel_after : Turn → List Letter → List (ℕ × Call) → Tunnel
-tunnel_after t letters calls = record (new_tunnel t.control) { letters = letters_after t letters; calls = with_calls t.changed calls }
+abbrev pub tunnel_after : Turn → List Letter → List (ℕ × Call) → Option Recovering → Tunnel
+tunnel_after t letters calls recovery =
+    record (new_tunnel t.control) { letters = letters_after t letters; calls = with_calls t.changed calls; recovery = recovery }

@@ -1,5 +1,5 @@
 -- Control messages.
-use Rattle.std.specs.Prelude.{ℕ, List, Bool, true, false, ◌==◌, length, if◌then◌else◌, Option, Some, None, unwrap_or, Result, Ok, Err}
+use Rattle.std.specs.Prelude.{ℕ, List, Bool, true, false, not, ◌==◌, length, if◌then◌else◌, Option, Some, None, unwrap_or, Result, Ok, Err}
 use Rattle.id_table.specs.Ids.{at, ids_of}
 use Rattle.wire_base.specs.declared.why.Why.{Why}
 use Rattle.wire_base.specs.declared.why.Why.TheVariants as why
@@ -21,7 +21,10 @@ use Rattle.tunnel_fsm.specs.Rows.{rows, row_of, state_number}
 use Rattle.end_model.specs.declared.tunnel.Call.{Call}
 use Rattle.end_model.specs.declared.tunnel.Config.{Config}
 use Rattle.end_names.specs.declared.role.Role.{Role}
-use Rattle.end_model.specs.Tunnels.{Turn}
+use Rattle.end_model.specs.declared.moves.Move.TheVariants as move
+use Rattle.end_model.specs.declared.tunnel.Mode.{Mode}
+use Rattle.end_model.specs.declared.tunnel.Mode.TheVariants.{Restored}
+use Rattle.end_model.specs.Tunnels.{Turn, is_current}
 use Rattle.end_model.specs.Channels.{has_room, may_take}
 use Rattle.end_model.specs.Messages.{Told, tells_id, told_by, event_by, opening_reason, connected_event, connected_reason}
 use Rattle.end_model.specs.Moments.{is_closed, is_idle, is_open, is_waiting_reply}
@@ -29,7 +32,7 @@ use Rattle.end_model.specs.Reasons.{Reason, reason, out_of_order, fault_reason}
 use Rattle.session_looks.specs.Frames.{header_why}
 use Rattle.l2tp_header.specs.Reading.{body_of}
 use Rattle.end_model.specs.Reading.{message_in, CallFault, call_fault_in, TunnelFault, tunnel_fault_in}
-use Rattle.end_model.specs.Turn.{drops}
+use Rattle.end_model.specs.Turn.{with_move, drops}
 use Rattle.end_model.specs.Sending.{reads_nr, settles, takes_plain, ignores}
 use Rattle.end_model.specs.Openings.{accepts, connected, confirms}
 use Rattle.end_model.specs.Ringing.{requests_all}
@@ -133,10 +136,22 @@ unfoldable pub first_said : Role → Config → Result Message Why → Turn → 
 first_said role c (Ok (Sccrq o)) t = accepts role c (told_by o) t
 first_said role c r t = drops why.Tunnel t
 
+-- how a mode in which nothing is taken is told
+abbrev pub mode_why : Mode → Why
+mode_why Restored = why.Restored
+mode_why m = why.Frozen
+
+-- a tunnel that is frozen or restored hears that its peer is there, and looks at no message
+unfoldable pub ignores_all : Turn → Turn
+ignores_all t =
+    drops (mode_why t.on.mode)
+    (with_move (move.Ignored t.control.local) (record t { control = record t.control { heard = t.on.moment } }))
+
 -- a control message that is for the tunnel: Nr is read first; an acknowledgement alone has no body
 unfoldable pub hears_control : Role → Config → List Letter → List (ℕ × Call) → Header → List ℕ → Turn → Turn
 hears_control role c letters calls h body t =
     if is_idle t.control.state then settles false letters (first_said role c (message_in body) t)
+    else if not (is_current t.on.mode) then ignores_all t
     else in_tunnel role c letters calls h.session body (class_told t.control.channel (unwrap_or h.ns 0) (length body == 0)) (reads_nr (unwrap_or h.nr 0) t)
 
 unfoldable pub hears_datagram : Role → Config → List Letter → List (ℕ × Call) → List ℕ → Result Header HeaderError → Turn → Turn

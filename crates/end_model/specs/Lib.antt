@@ -24,6 +24,7 @@ pub mod Faulty
 pub mod Hearing
 pub mod Ticking
 pub mod Events
+pub mod Recovering
 pub mod End
 pub mod Access
 pub mod Contents

@@ -26,7 +26,7 @@ use Rattle.end_model.specs.Sending.{gives, takes_one}
 -- a tunnel to a peer that is neither opened nor accepted yet; as long as it isn't known, the peer's window counts as 4
 -- (RFC 2661 section 4.4.3)
 abbrev pub fresh : ℕ → ℕ → Control
-fresh peer moment = record { local = 0; peer = peer; remote = 0; state = Idle; channel = opened_at 0 0 4; made = moment; heard = moment; closed = 0; flags = 0; challenge = None }
+fresh peer moment = record { local = 0; peer = peer; remote = 0; state = Idle; channel = opened_at 0 0 4; made = moment; heard = moment; closed = 0; flags = 0; mark = 0; challenge = None }
 
 abbrev pub in_state : TunnelState → Control → Control
 in_state s c = record c { state = s }

@@ -1,5 +1,5 @@
 -- What a datagram says.
-use Rattle.std.specs.Prelude.{ℕ, ◌==◌, ◌&&◌, not, Bool, true, false, List, if◌then◌else◌, Option, Some, None, is_none, unwrap_or, Result, Ok, Err}
+use Rattle.std.specs.Prelude.{ℕ, ◌==◌, ◌&&◌, not, Bool, true, false, List, if◌then◌else◌, Option, Some, None, is_some, is_none, unwrap_or, Result, Ok, Err}
 use Rattle.wire_base.specs.declared.why.Why.{Why}
 use Rattle.wire_base.specs.declared.why.Why.TheVariants as why
 use Rattle.wire_base.specs.declared.cause.Cause.{Cause}
@@ -19,7 +19,7 @@ use Rattle.control_message.specs.Reading.{message_of, kind_of_pairs, plain_short
 use Rattle.tunnel_fsm.specs.declared.table.TunnelEvent.{TunnelEvent}
 use Rattle.tunnel_fsm.specs.declared.table.TunnelEvent.TheVariants as event
 use Rattle.end_model.specs.declared.event.Addressee.{Addressee}
-use Rattle.end_model.specs.declared.event.Addressee.TheVariants.{Opens, Stops, Answers, Main, Nobody}
+use Rattle.end_model.specs.declared.event.Addressee.TheVariants.{Opens, Recovers, Stops, Answers, Main, Nobody}
 
 -- the message that pairs make, or why it is ignored
 unfoldable pub message_read : Result Read MessageError → Result Message Why
@@ -160,10 +160,10 @@ zero_faulty (Some kind.Sccrp) avps = told_or_none (λ i. Answers i) (plain_short
 zero_faulty (Some kind.StopCcn) avps = stopped (plain_short 9 avps)
 zero_faulty k avps = Nobody why.Tunnel
 
--- at tunnel 0, faulty or not: an SCCRQ opens a tunnel by the id that it assigns, or is declined, an SCCRP is declined, a StopCCN is for
+-- at tunnel 0, faulty or not: an SCCRQ opens a tunnel by the id that it assigns, or asks for the recovery of one, or is declined, an SCCRP is declined, a StopCCN is for
 -- the tunnel that it tells, and every other message is for none
 unfoldable pub zero_read : List Avp → Result Read MessageError → Addressee
-zero_read avps (Ok (Known (Sccrq o))) = Opens o.tunnel
+zero_read avps (Ok (Known (Sccrq o))) = if is_some o.recovery then Recovers o.tunnel else Opens o.tunnel
 zero_read avps (Ok (Known (Sccrp o))) = Answers o.tunnel
 zero_read avps (Ok (Known (StopCcn tunnel code error))) = stopped (Some tunnel)
 zero_read avps (Ok r) = Nobody why.Tunnel

@@ -1,5 +1,5 @@
 -- Tunnels that close.
-use Rattle.std.specs.Prelude.{ℕ, List, if◌then◌else◌, None}
+use Rattle.std.specs.Prelude.{ℕ, List, true, if◌then◌else◌, None}
 use Rattle.id_table.specs.Ids.{ids_of}
 use Rattle.wire_base.specs.declared.why.Why.TheVariants as why
 use Rattle.wire_base.specs.declared.cause.Cause.TheVariants as cause
@@ -11,7 +11,7 @@ use Rattle.end_model.specs.declared.tunnel.Call.{Call}
 use Rattle.end_model.specs.declared.tunnel.Control.{Control}
 use Rattle.end_model.specs.declared.out.Out.TheVariants.{Cause}
 use Rattle.end_model.specs.declared.moves.Move.TheVariants as move
-use Rattle.end_model.specs.Tunnels.{Turn}
+use Rattle.end_model.specs.Tunnels.{Turn, is_current}
 use Rattle.end_model.specs.Channels.{next_place, taken_place, has_room}
 use Rattle.end_model.specs.Moments.{is_open}
 use Rattle.end_model.specs.Reasons.{Reason, reason}
@@ -53,7 +53,12 @@ closed_by calls next t =
     with_move (move.ClosedBy (record { tunnel = t.control.local; booked = is_open t.control.state; taken = taken_place t.control }))
     (shuts calls t.control.remote next (takes_one t))
 
--- an administrative close, by the table's row
+-- the tunnel is removed with its calls, without a message
+unfoldable pub clears : List (ℕ × Call) → Turn → Turn
+clears calls t = record (ends_all (ids_of calls) (with_move (move.Cleared t.control.local (is_open t.control.state)) t)) { cleared = true }
+
+-- an administrative close, by the table's row; a tunnel that is frozen or restored is cleared
 unfoldable pub shuts_by : List (ℕ × Call) → TunnelState × TunnelAction → Turn → Turn
-shuts_by calls (next, action.SendStopCcn) t = closes_tunnel (reason cause.Operator clear_request None) calls t.control.remote next t
+shuts_by calls (next, action.SendStopCcn) t =
+    if is_current t.on.mode then closes_tunnel (reason cause.Operator clear_request None) calls t.control.remote next t else clears calls t
 shuts_by calls (next, a) t = t

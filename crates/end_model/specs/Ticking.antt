@@ -1,5 +1,5 @@
 -- Time.
-use Rattle.std.specs.Prelude.{ℕ, List, [], ◌∷◌, true, false, ◌==◌, ◌&&◌, nat_lt, if◌then◌else◌, Option, Some, None}
+use Rattle.std.specs.Prelude.{ℕ, List, [], ◌∷◌, false, ◌==◌, ◌&&◌, nat_lt, if◌then◌else◌, Option, Some, None}
 use Rattle.id_table.specs.Ids.{at, ids_of}
 use Rattle.wire_base.specs.declared.cause.Cause.TheVariants as cause
 use Rattle.wire_base.specs.declared.letter.Letter.{Letter}
@@ -11,19 +11,16 @@ use Rattle.call_fsm.specs.declared.table.CallEvent.TheVariants as call_event
 use Rattle.end_model.specs.declared.tunnel.Call.{Call}
 use Rattle.end_names.specs.declared.role.Role.{Role}
 use Rattle.end_model.specs.declared.moves.Move.TheVariants as move
-use Rattle.end_model.specs.Tunnels.{Turn}
+use Rattle.end_model.specs.Tunnels.{Turn, is_current}
 use Rattle.end_model.specs.Channels.{next_place}
 use Rattle.end_model.specs.Moments.{is_over, patience, is_at_its_end, is_open}
 use Rattle.end_model.specs.Calls.{row_for, is_set_up}
-use Rattle.end_model.specs.Turn.{with_move, ends_all}
+use Rattle.end_model.specs.Turn.{with_move}
 use Rattle.end_model.specs.Sending.{gives, repeats, settles}
 use Rattle.end_model.specs.Closing.{ends_by}
+use Rattle.end_model.specs.Stopping.{clears}
 use Rattle.end_model.specs.Linking.{ticks_link}
 use Rattle.end_model.specs.Codes.{not_in_time}
-
--- the tunnel is removed with its calls, without a message
-unfoldable pub clears : List (ℕ × Call) → Turn → Turn
-clears calls t = record (ends_all (ids_of calls) (with_move (move.Cleared t.control.local (is_open t.control.state)) t)) { cleared = true }
 
 -- a quiet tunnel of which nothing waits says that it is there (RFC 2661 section 6.5)
 unfoldable pub greeted : List Letter → Turn → Turn
@@ -33,7 +30,7 @@ greeted letters t =
 
 unfoldable pub greets : List Letter → Turn → Turn
 greets letters t =
-    if is_open t.control.state && t.control.channel.window.queued == 0 && is_over patience t.on.moment t.control.heard
+    if is_open t.control.state && is_current t.on.mode && t.control.channel.window.queued == 0 && is_over patience t.on.moment t.control.heard
     then greeted letters t else t
 
 -- a call that took too long to be set up ends; the LCP end of another has its timer

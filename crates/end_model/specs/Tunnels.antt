@@ -1,12 +1,34 @@
 -- A tunnel, what a step works in, and a tunnel in a step.
-use Rattle.std.specs.Prelude.{ℕ, List, [], Bool, false, Option}
+use Rattle.std.specs.Prelude.{ℕ, List, [], Bool, true, false, if◌then◌else◌, Option, Some, None, is_some}
 use Rattle.id_source.specs.Spaces.{Space}
 use Rattle.wire_base.specs.declared.letter.Letter.{Letter}
 use Rattle.end_model.specs.declared.tunnel.Call.{Call}
 use Rattle.session_looks.specs.declared.look.CellChange.{CellChange}
 use Rattle.end_model.specs.declared.tunnel.Control.{Control}
+use Rattle.end_model.specs.declared.tunnel.Mode.{Mode}
+use Rattle.end_model.specs.declared.tunnel.Mode.TheVariants.{Current, Frozen, Restored}
+pub use Rattle.recovery_tunnel.specs.declared.either.Recovering.{Recovering}
+pub use Rattle.recovery_tunnel.specs.declared.either.Recovering.TheVariants.{ByAttempt, ByAnswer}
+pub use Rattle.recovery_tunnel.specs.Either.{connection_of, with_connection}
 use Rattle.end_model.specs.declared.out.Out.{Out}
 use Rattle.end_model.specs.declared.moves.Move.{Move}
+
+-- it told to reset its tunnel
+abbrev pub is_finished : Recovering → Bool
+is_finished r = is_some (connection_of r).reset
+
+-- a tunnel is restored as long as its attempt hasn't reset it, and frozen as long as its answer hasn't
+abbrev pub mode_by : Recovering → Mode
+mode_by (ByAttempt c) = Restored
+mode_by (ByAnswer a) = Frozen
+
+abbrev pub mode_of : Option Recovering → Mode
+mode_of None = Current
+mode_of (Some r) = if is_finished r then Current else mode_by r
+
+abbrev pub is_current : Mode → Bool
+is_current Current = true
+is_current m = false
 
 pub record Tunnel : Type 0 where
   pub control : Control
@@ -14,15 +36,19 @@ pub record Tunnel : Type 0 where
   pub letters : List Letter
   -- its calls, by session id
   pub calls : List (ℕ × Call)
+  -- its recovery tunnel, as long as there is one
+  pub recovery : Option Recovering
 
--- a tunnel that is new: nothing was given to its channel, and it has no calls
+-- a tunnel that is new: nothing was given to its channel, it has no calls, and nobody recovers it
 abbrev pub new_tunnel : Control → Tunnel
-new_tunnel c = record { control = c; letters = []; calls = [] }
+new_tunnel c = record { control = c; letters = []; calls = []; recovery = None }
 
--- what a step stands on, which nothing in it changes: its moment, in milliseconds, and its 16 random bytes
+-- what a step stands on, which nothing in it changes: its moment, in milliseconds, its 16 random bytes, and the mode that its tunnel had
+-- before
 pub record Ground : Type 0 where
   pub moment : ℕ
   pub block : List ℕ
+  pub mode : Mode
 
 -- where a step takes_id tunnel ids, session ids and the numbers of recoveries from
 pub record Drawing : Type 0 where
@@ -74,3 +100,7 @@ turn_of c e = record {
   changes = [];
   moves = [];
 }
+
+-- of a tunnel that is there
+abbrev pub turn_in : Tunnel → Env → Turn
+turn_in t e = turn_of t.control (record e { on = record e.on { mode = mode_of t.recovery } })

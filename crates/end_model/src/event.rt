@@ -43,6 +43,10 @@ pub enum Addressee {
     Answers { remote: u16 },
     /// The tunnel with this local id.
     Main { tunnel: u32 },
+    /// The recovery tunnel of the tunnel with this local id.
+    Recovery { tunnel: u32 },
+    /// A tunnel that is to be recovered, by a recovery tunnel to which the peer assigned this id.
+    Recovers { remote: u16 },
     /// None: the message is ignored.
     Nobody { why: Why },
 }

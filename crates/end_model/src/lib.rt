@@ -14,8 +14,9 @@ pub use end_names::{
 pub use event::{Addressee, Event};
 pub use moves::{
     Accepted, Added, Closed, ClosedBy, Confirmed, Connected, Counted, Declined, EndHeard,
-    EndSilent, EndTold, FirstUp, FrameSent, FrameUp, Greeted, LetGo, Move, Negotiated, NrRead,
-    Opened, Place, Refused, Rejected, Repeated, Replied, Requested, SecondUp, TookPlain,
+    EndSilent, EndTold, FirstUp, Forgot, FrameSent, FrameUp, Froze, Greeted, LetGo, Move,
+    Negotiated, NrRead, Opened, Place, Refused, Rejected, Repeated, Replied, Requested,
+    ResetAnswering, ResetAttempting, Restored, SecondUp, TookPlain,
 };
 pub use out::{ControlOrigin, Origin, Out};
-pub use tunnel::{Call, CallPlace, CallStep, CallSteps, Config, Control};
+pub use tunnel::{Call, CallPlace, CallStep, CallSteps, Config, Control, Mode};

@@ -1,6 +1,7 @@
 //! What a step does to a tunnel or a call. Nobody prints it: what holds of every run is said over it.
 
-use wire_base::{Bytes, Side};
+use session_book::{BookCall, BookTunnel};
+use wire_base::{Bytes, Sequence, Side};
 
 /// The place of a letter in the list of letters that a tunnel was given, counted from 0.
 #[derive(Clone, Copy)]
@@ -250,6 +251,70 @@ pub struct Counted {
     pub session: u16,
 }
 
+/// A tunnel that was kept over a crash is there again with its calls, and its recovery is attempted, over a recovery tunnel with this
+/// local id and this draw number, by an SCCRQ with this challenge.
+#[derive(Drop)]
+pub struct Restored {
+    pub tunnel: BookTunnel,
+    pub calls: Sequence<BookCall>,
+    pub attempt: u16,
+    pub draw: u32,
+    pub challenge: Option<[u8; 16]>,
+}
+
+/// A tunnel that was kept over a crash is given up with its calls.
+#[derive(Clone, Copy)]
+pub struct Forgot {
+    pub tunnel: u16,
+}
+
+/// A peer's attempt at the recovery of a tunnel is answered: its channel is frozen, its calls that aren't established end, and an
+/// SCCRP suggests the numbers to go on with. `attempt` is the peer's recovery tunnel with its draw number `asked`, `answer` this
+/// end's with its own number `draw`.
+#[derive(Clone, Copy)]
+pub struct Froze {
+    pub tunnel: u16,
+    pub peer: u32,
+    pub remote: u16,
+    pub attempt: u16,
+    pub answer: u16,
+    pub asked: u32,
+    pub draw: u32,
+    /// The numbers that are suggested: of the next letter that this end expects, and of the next that it would send.
+    pub expect: u16,
+    pub send_from: u16,
+    /// Whether the tunnel's mark rose.
+    pub marked: bool,
+}
+
+/// The end that attempts a recovery took the SCCRP of its peer: the tunnel's channel begins anew with the numbers that it suggests,
+/// and the SCCRP is confirmed.
+#[derive(Clone, Copy)]
+pub struct ResetAttempting {
+    pub tunnel: u16,
+    pub peer: u32,
+    pub remote: u16,
+    pub attempt: u16,
+    pub answer: u16,
+    /// The peer's draw number, 0 where it told none.
+    pub draw: u32,
+    pub send_from: u16,
+    pub expect: u16,
+    pub marked: bool,
+}
+
+/// The end that answers an attempt took the SCCCN of its peer: the tunnel's channel begins anew.
+#[derive(Clone, Copy)]
+pub struct ResetAnswering {
+    pub tunnel: u16,
+    pub peer: u32,
+    pub remote: u16,
+    pub answer: u16,
+    pub attempt: u16,
+    pub send_from: u16,
+    pub expect: u16,
+}
+
 /// A PPP frame that was given for a call, or that its LCP end gave, was sent to the peer of its tunnel.
 #[derive(Drop)]
 pub struct FrameSent {
@@ -306,4 +371,15 @@ pub enum Move {
     Counted(Counted),
     FrameSent(FrameSent),
     FrameUp(FrameUp),
+    Restored(Restored),
+    Forgot(Forgot),
+    Froze(Froze),
+    ResetAttempting(ResetAttempting),
+    ResetAnswering(ResetAnswering),
+    /// The recovery tunnel of a tunnel sent, took, was acknowledged, or closed itself.
+    RecoveryWentOn { tunnel: u16 },
+    /// The recovery tunnel of a tunnel that was reset is gone.
+    RecoveryEnded { tunnel: u16 },
+    /// A control message of a tunnel that is frozen or restored was heard, and not looked at.
+    Ignored { tunnel: u16 },
 }

@@ -19,8 +19,16 @@ pub struct ControlOrigin {
 pub enum Origin {
     /// A control message, or an acknowledgement alone.
     Control(ControlOrigin),
+    /// A control message of a recovery tunnel, or an acknowledgement alone: its local id, and the number of the message.
+    Recovery {
+        tunnel: u16,
+        number: u64,
+        empty: bool,
+    },
     /// A PPP frame of the call with this local session id.
-    Data { session: u16 },
+    Data {
+        session: u16,
+    },
 }
 
 /// What a step gives to the outside, in order.

@@ -61,9 +61,22 @@ pub struct Control {
     /// What the other end can recover, a set of bits (RFC 4951 section 5.1): 1 for the control channel, 2 for data channels; 0 as
     /// long as it isn't known.
     pub flags: u16,
+    /// The greatest draw number of a recovery of it that was answered or completed, 0 where there was none.
+    pub mark: u32,
     /// What this end asked its peer to answer by the secret, when it opened or accepted the tunnel; None where it has no
     /// secret (RFC 2661 section 5.1.1).
     pub challenge: Option<[u8; 16]>,
+}
+
+/// What a tunnel's control channel does (RFC 4951 section 4.3). Data messages go on in each of these.
+#[derive(Clone, Copy)]
+pub enum Mode {
+    /// It carries control messages.
+    Current,
+    /// Its end answers an attempt at its recovery: nothing is taken or sent.
+    Frozen,
+    /// Its end was down and attempts its recovery: nothing is taken or sent.
+    Restored,
 }
 
 /// A row of a call's table that a call went through.

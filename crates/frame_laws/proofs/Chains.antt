@@ -1,5 +1,6 @@
 -- What the moves of a step leave.
 use Rattle.std.proofs.Common.{◌≡◌, inr, ⊎_elim, ℕ, ◌<◌, List, [], ◌∷◌, ◌++◌, length, refl, ap, ◌∙◌, subst, sym, None, arith}
+use Rattle.std.specs.List.{AllByRecursion}
 use Rattle.end_model.specs.declared.event.Event.{Event}
 use Rattle.end_model.specs.declared.moves.FrameSent.{FrameSent}
 use Rattle.end_model.specs.declared.moves.Move.{Move}
@@ -11,8 +12,10 @@ use Rattle.world_model.specs.World.{World, moved, moved_all}
 use Rattle.step_laws.specs.Letters.{Among}
 use Rattle.step_laws.specs.Moves.{SendsFrame, Does, Chain}
 use Rattle.frame_laws.proofs.Facts.{Nodes, Grows, Mates, grows_on, mates_later, same_nodes}
-use Rattle.frame_laws.proofs.Leads.{Heard, heard_later, At, Leads}
-use Rattle.frame_laws.proofs.Moves.{does_led}
+use Rattle.step_laws.specs.Steps.{IsOfNoStart}
+use Rattle.frame_laws.specs.Unrecovered.{IsMain, is_main}
+use Rattle.frame_laws.proofs.Leads.{Heard, heard_later, heard_asks, At, Leads}
+use Rattle.frame_laws.proofs.Moves.{none_recovers, does_led}
 
 -- a move keeps the end's role
 pub does_role : (moment : ℕ) (ev : Event) (x : End) (m : Move) (y : End) → Does x moment ev m y → y.role ≡ x.role
@@ -44,6 +47,14 @@ does_role moment ev x (move.Negotiated m) y h = ap (λ (e : End). e.role) h.afte
 does_role moment ev x (move.Counted m) y h = ap (λ (e : End). e.role) h.after
 does_role moment ev x (move.FrameSent m) y h = ap (λ (e : End). e.role) h.after
 does_role moment ev x (move.FrameUp m) y h = ap (λ (e : End). e.role) h.after
+does_role moment ev x (move.Restored m) y h = ap (λ (e : End). e.role) h.after
+does_role moment ev x (move.Forgot m) y h = ap (λ (e : End). e.role) h.after
+does_role moment ev x (move.Froze m) y h = ap (λ (e : End). e.role) h.after
+does_role moment ev x (move.ResetAttempting m) y h = ap (λ (e : End). e.role) h.after
+does_role moment ev x (move.ResetAnswering m) y h = ap (λ (e : End). e.role) h.after
+does_role moment ev x (move.RecoveryWentOn i) y h = ap (λ (e : End). e.role) h.after
+does_role moment ev x (move.RecoveryEnded i) y h = ap (λ (e : End). e.role) h.after
+does_role moment ev x (move.Ignored i) y h = ap (λ (e : End). e.role) h.after
 
 pub same_role : (moment : ℕ) (ev : Event) (x y : End) (ms : List Move) → Chain moment ev x ms y → y.role ≡ x.role
 same_role moment ev x y [] h = ap (λ (e : End). e.role) (sym h)
@@ -70,9 +81,15 @@ module _ (digits : (who : List ℕ) → length (calling_number who) ≡ 12) (n :
     counted = λ room had. h.counted (let a = g.born in omega (arith, room)) (g.counted room had);
   }
 
-  pub ran : (v : World) (x y : End) → At n z v x → Heard v.nodes n ev → (ms : List Move) → Chain moment ev x ms y → Ran v (moved_all n ms v) x y
+  -- a move of a step isn't one of a recovery
+  main_here : (v : World) (x y : End) → At n z v x → Heard v.nodes n ev → (m : Move) → IsOfNoStart m → Does x moment ev m y → IsMain m
+  main_here v x y here heard m start does =
+      is_main x (none_recovers digits n z v x here ev heard) moment ev (heard_asks v.nodes n ev heard) m start y does
+
+  pub ran : (v : World) (x y : End) → At n z v x → Heard v.nodes n ev → (ms : List Move) → AllByRecursion IsOfNoStart ms → Chain moment ev x ms y
+      → Ran v (moved_all n ms v) x y
   unfolding moved_all
-  ran v x y here heard [] h = subst (λ e. Ran v v x e) h (record {
+  ran v x y here heard [] starts h = subst (λ e. Ran v v x e) h (record {
     at_end = here;
     grows = record {
       grows = same_nodes v.nodes;
@@ -83,10 +100,19 @@ module _ (digits : (who : List ℕ) → length (calling_number who) ≡ 12) (n :
       counted = λ room had. had;
     };
   })
-  ran v x y here heard (m ∷ ms) h =
-      let led = does_led digits n z v x here ev heard moment m h.0 h.1 in
-      let r = ran (moved n v m) h.0 y led.at_end (heard_later v.nodes (moved n v m).nodes led.leads.grows n ev heard) ms h.2 in
+  ran v x y here heard (m ∷ ms) starts h =
+      let led = does_led digits n z v x here ev heard moment m (main_here v x h.0 here heard m starts.0 h.1) h.0 h.1 in
+      let r = ran (moved n v m) h.0 y led.at_end (heard_later v.nodes (moved n v m).nodes led.leads.grows n ev heard) ms starts.1 h.2 in
       record { at_end = r.at_end; grows = leads_on v (moved n v m) (moved_all n ms (moved n v m)) x h.0 y led.leads r.grows }
+
+  -- nor is any of its moves
+  pub all_main : (v : World) (x y : End) → At n z v x → Heard v.nodes n ev → (ms : List Move) → AllByRecursion IsOfNoStart ms → Chain moment ev x ms y
+      → AllByRecursion IsMain ms
+  all_main v x y here heard [] starts h = tt
+  all_main v x y here heard (m ∷ ms) starts h =
+      let main = main_here v x h.0 here heard m starts.0 h.1 in
+      let led = does_led digits n z v x here ev heard moment m main h.0 h.1 in
+      (main, all_main (moved n v m) h.0 y led.at_end (heard_later v.nodes (moved n v m).nodes led.leads.grows n ev heard) ms starts.1 h.2)
 
   -- a frame that moves send: the end as it stands then, and the two sessions, which are mates in the nodes that all the moves lead to
   pub record SentThen (ns : Nodes) (x : End) (ms : List Move) (f : FrameSent) : Type 0 where
@@ -134,18 +160,18 @@ module _ (digits : (who : List ℕ) → length (calling_number who) ≡ 12) (n :
     link = h.link;
   }
 
-  pub sent_then : (v : World) (x y : End) → At n z v x → Heard v.nodes n ev → (ms : List Move) → Chain moment ev x ms y → (f : FrameSent)
-      → Among (move.FrameSent f) ms → SentThen (moved_all n ms v).nodes x ms f
+  pub sent_then : (v : World) (x y : End) → At n z v x → Heard v.nodes n ev → (ms : List Move) → AllByRecursion IsOfNoStart ms → Chain moment ev x ms y
+      → (f : FrameSent) → Among (move.FrameSent f) ms → SentThen (moved_all n ms v).nodes x ms f
   unfolding moved_all
-  sent_then v x y here heard [] h f a = absurd a
-  sent_then v x y here heard (m ∷ ms) h f a =
-      let led = does_led digits n z v x here ev heard moment m h.0 h.1 in
+  sent_then v x y here heard [] starts h f a = absurd a
+  sent_then v x y here heard (m ∷ ms) starts h f a =
+      let led = does_led digits n z v x here ev heard moment m (main_here v x h.0 here heard m starts.0 h.1) h.0 h.1 in
       let next = moved n v m in
       let then_heard = heard_later v.nodes next.nodes led.leads.grows n ev heard in
-      let r = ran next h.0 y led.at_end then_heard ms h.2 in
+      let r = ran next h.0 y led.at_end then_heard ms starts.1 h.2 in
       let ns = (moved_all n ms next).nodes in
       ⊎_elim
       (λ (e : m ≡ move.FrameSent f). subst (λ q. SentThen ns x (q ∷ ms) f) (sym e)
       (sent_first v x h.0 here ns (grows_on v.nodes next.nodes ns led.leads.grows r.grows.grows) f ms (subst (λ q. Does x moment ev q h.0) e h.1)))
-      (λ b. sent_later ns x h.0 m ms f h.1 (sent_then next h.0 y led.at_end then_heard ms h.2 f b))
+      (λ b. sent_later ns x h.0 m ms f h.1 (sent_then next h.0 y led.at_end then_heard ms starts.1 h.2 f b))
       a

@@ -1,7 +1,7 @@
 -- What the bytes of a datagram that an end sends are read as.
 use Rattle.std.proofs.Common.{◌≡◌, ◌⊎◌, ⊎_elim, ℕ, ◌<◌, ◌≤◌, Bool, true, false, cond, List, [], length, refl, sym, ap, ◌∙◌, subst, Option, Some, None, Ok, arith}
 use Rattle.std.proofs.lemmas.Bool.{true≢false}
-use Rattle.std.specs.Prelude.{◌==◌}
+use Rattle.std.specs.Prelude.{◌==◌, is_some}
 use Rattle.wire_base.specs.declared.why.Why.TheVariants as why
 use Rattle.wire_base.specs.declared.cause.Cause.TheVariants as cause
 use Rattle.l2tp_header.specs.declared.header.Header.{Header}
@@ -17,7 +17,7 @@ use Rattle.control_message.specs.Reading.{message_by, kind_by}
 use Rattle.recv_window.specs.Window.{on_wire}
 use Rattle.tunnel_fsm.specs.declared.table.TunnelEvent.TheVariants as event
 use Rattle.end_model.specs.declared.event.Addressee.{Addressee}
-use Rattle.end_model.specs.declared.event.Addressee.TheVariants.{Opens, Stops, Answers, Nobody}
+use Rattle.end_model.specs.declared.event.Addressee.TheVariants.{Opens, Recovers, Stops, Answers, Nobody}
 use Rattle.end_model.specs.Channels.{letter_as}
 use Rattle.end_model.specs.Reading.{message_in, pairs_read, message_read, CallFault, call_fault_in, fault_of_pairs, TunnelFault, tunnel_fault_in, tunnel_fault_of_pairs, closing, at_zero, zero_pairs, zero_read}
 use Rattle.frame_laws.specs.Codecs.{Codecs}
@@ -90,7 +90,11 @@ module _ (codecs : Codecs) where
 
   zero_fits : (m : Message) (avps : List Avp) → IsWritten m → (i : ℕ) → TellsId (zero_read avps (Ok (Known m))) i → i < 65536
   unfolding zero_read
-  zero_fits (Sccrq o) avps w i h = ⊎_elim (λ e. let same : o.tunnel ≡ i = cc in rw (← same) w.0.tunnel) (λ e. absurd cc) h
+  zero_fits (Sccrq o) avps w i h = by (is_some o.recovery) h
+    where
+      by : (asks : Bool) → TellsId (cond asks (Recovers o.tunnel) (Opens o.tunnel)) i → i < 65536
+      by true h = ⊎_elim (λ e. absurd cc) (λ e. absurd cc) h
+      by false h = ⊎_elim (λ e. let same : o.tunnel ≡ i = cc in rw (← same) w.0.tunnel) (λ e. absurd cc) h
   zero_fits (Sccrp o) avps w i h = ⊎_elim (λ e. absurd cc) (λ e. let same : o.tunnel ≡ i = cc in rw (← same) w.tunnel) h
   zero_fits (StopCcn tunnel code error) avps w i h = by (tunnel == 0) h
     where

@@ -19,6 +19,15 @@ pub all_append : {X : Type 0} (P : X → Type 0) (xs ys : List X) → AllByRecur
 all_append P [] ys h k = k
 all_append P (x ∷ xs) ys h k = (h.0, all_append P xs ys h.1 k)
 
+-- what holds of all of two lists holds of all of each
+pub all_before : {X : Type 0} (P : X → Type 0) (xs ys : List X) → AllByRecursion P (xs ++ ys) → AllByRecursion P xs
+all_before P [] ys h = tt
+all_before P (x ∷ xs) ys h = (h.0, all_before P xs ys h.1)
+
+pub all_behind : {X : Type 0} (P : X → Type 0) (xs ys : List X) → AllByRecursion P (xs ++ ys) → AllByRecursion P ys
+all_behind P [] ys h = h
+all_behind P (x ∷ xs) ys h = all_behind P xs ys h.1
+
 pub all_among : {X : Type 0} (P : X → Type 0) (xs : List X) (x : X) → AllByRecursion P xs → Among x xs → P x
 all_among P [] x h a = absurd a
 all_among P (y ∷ xs) x h a = ⊎_elim (λ e. subst P e h.0) (λ b. all_among P xs x h.1 b) a
@@ -66,6 +75,7 @@ one_sent P d (move.Negotiated m) h = tt
 one_sent P d (move.Counted m) h = tt
 one_sent P d (move.FrameSent m) h = (h m refl, tt)
 one_sent P d (move.FrameUp m) h = tt
+one_sent P d m h = tt
 
 one_handed : (P : Passage → Type 0) (d : Deed) (m : Move) → ((f : FrameUp) → m ≡ move.FrameUp f → P (passage_of d f.peer f.session f.frame))
     → AllByRecursion P (handed_by d m)
@@ -97,10 +107,16 @@ one_handed P d (move.Negotiated m) h = tt
 one_handed P d (move.Counted m) h = tt
 one_handed P d (move.FrameSent m) h = tt
 one_handed P d (move.FrameUp m) h = (h m refl, tt)
+one_handed P d m h = tt
 
 module _ (v : World) (number n : ℕ) (r : Role) (sender : Option Sender) where
   abbrev pub deeds : List Move → List Deed
   deeds ms = map (λ m. deed_of v number n r sender m) ms
+
+  -- what the moves are
+  pub each_done : (P : Move → Type 0) (ms : List Move) → AllByRecursion P ms → AllByRecursion (λ (d : Deed). P d.move) (deeds ms)
+  each_done P [] h = tt
+  each_done P (m ∷ ms) h = (h.0, each_done P ms h.1)
 
   abbrev pub sends : FrameSent → Passage
   sends f = passage_of (deed_of v number n r sender (move.FrameSent f)) f.peer f.session f.frame

@@ -1,7 +1,7 @@
 -- Frames that are held: a load holds one that was sent in its call, and a frame that is handed up is held no more.
-use Rattle.std.proofs.Common.{◌≡◌, ⊎_elim, ℕ, ◌-◌, ◌<◌, Bool, true, false, List, [], ◌∷◌, ◌++◌, refl, sym, ap, ◌∙◌, subst, Option, Some, None, Ok, not, ◌==◌, ◌||◌, nat_lt, length, if◌then◌else◌}
+use Rattle.std.proofs.Common.{◌≡◌, ⊎_elim, ℕ, ◌+◌, ◌-◌, ◌^◌, ◌<◌, Bool, true, false, List, [], ◌∷◌, ◌++◌, refl, sym, ap, ◌∙◌, subst, Option, Some, None, not, ◌==◌, ◌||◌, nat_lt, length, if◌then◌else◌}
 use Rattle.std.proofs.lemmas.Bool.{eqb-true, true≢false}
-use Rattle.std.specs.Prelude.{unwrap_or, slice_get}
+use Rattle.std.specs.Prelude.{min, unwrap_or}
 use Rattle.id_table.specs.Ids.{at, put, without}
 use Rattle.id_table.specs.Order.{Ascends, ascends-put, ascends-without, at_new, at_other, found_put, found_without, same_or_not}
 use Rattle.wire_base.specs.declared.letter.Side.{Side}
@@ -11,7 +11,7 @@ use Rattle.end_names.specs.declared.role.Role.{Role}
 use Rattle.end_names.specs.Names.{address_of, node_of}
 use Rattle.session_looks.specs.declared.look.Look.{Look}
 use Rattle.session_looks.specs.declared.look.Look.TheVariants.{Unborn, Bound, Established, Dead}
-use Rattle.session_looks.specs.Frames.{Carried, Upward, Dropped, carry_known, carry_look, frame_of, side_of, is_for_lcp}
+use Rattle.session_looks.specs.Frames.{Upward, Dropped, carry_known, carry_look, frame_of, side_of, is_for_lcp}
 use Rattle.end_model.specs.Secrets.{uncovered_datagram}
 use Rattle.l2tp_header.specs.Reading.{body_of}
 use Rattle.end_model.specs.declared.moves.Move.{Move}
@@ -20,12 +20,13 @@ use Rattle.end_model.specs.declared.out.Out.{Out}
 use Rattle.end_model.specs.declared.out.Out.TheVariants.{Send, Up, Gone, Drop, Cause}
 use Rattle.world_model.specs.declared.packet.Packet.{Packet}
 use Rattle.world_model.specs.declared.held.Held.{Held}
-use Rattle.world_model.specs.World.{World, Node, with_birth_at, with_birth, is_born, moved, moved_all, sent, shown, shown_all, held_at, held_line, taken_up, hand_deed, birth_of}
+use Rattle.world_model.specs.declared.standing.Standing.{Standing}
+use Rattle.world_model.specs.World.{World, Node, standing_of, with_standing, with_standing_at, with_answer_at, has_made, makes_epoch, enters_epoch, with_birth_at, with_birth, is_born, moved, moved_all, sent, shown, shown_all, held_at, held_line, taken_up, hand_deed}
 use Rattle.step_laws.specs.Lines.{IsLoaded, IsHeldAt}
 use Rattle.step_laws.specs.Letters.{Among}
 use Rattle.frame_laws.specs.Past.{Passage, passage_of}
-use Rattle.frame_laws.specs.Frames.{IsOf, WasSent, other_end}
-use Rattle.frame_laws.proofs.Facts.{Nodes, Born, Plays, Grows, same_nodes, WasSentInCall, PacketOk, HeldOk, HeldIsSent, held_ok_later, among_left}
+use Rattle.frame_laws.specs.Frames.{WasSent, other_end}
+use Rattle.frame_laws.proofs.Facts.{Nodes, WasSentInCall, PacketOk, HeldOk, HeldIsSent, among_left}
 use Rattle.frame_laws.proofs.Changes.{birth_is, role_there}
 use Rattle.frame_laws.proofs.Leads.{node_again}
 
@@ -38,6 +39,30 @@ birth_held n s b w = by (at w.nodes n)
     by : (o : Option Node) → (with_birth_at w n s b o).held ≡ w.held
     by None = refl
     by (Some node) = refl
+
+standing_held : (n i : ℕ) (s : Standing) (w : World) → (with_standing w n i s).held ≡ w.held
+unfolding with_standing
+standing_held n i s w = by (at w.nodes n)
+  where
+    by : (o : Option Node) → (with_standing_at w n i s o).held ≡ w.held
+    by None = refl
+    by (Some node) = refl
+
+answer_held : (n answer epoch : ℕ) (o : Option Node) (w : World) → (with_answer_at w n answer epoch o).held ≡ w.held
+answer_held n answer epoch None w = refl
+answer_held n answer epoch (Some node) w = refl
+
+epoch_held : (n i m j answer : ℕ) (w : World) → (makes_epoch w n i m j answer).held ≡ w.held
+unfolding makes_epoch
+epoch_held n i m j answer w =
+    let epoch = min ((standing_of w n i).made + 1) (2 ^ 64 - 1) in
+    let v = has_made w n i epoch in
+    let u = has_made v m j epoch in
+    answer_held n answer epoch (at u.nodes n) u ∙ standing_held m j _ v ∙ standing_held n i _ w
+
+enters_held : (n i epoch : ℕ) (w : World) → (enters_epoch w n i epoch).held ≡ w.held
+unfolding enters_epoch
+enters_held n i epoch w = standing_held n i _ w
 
 move_held : (n : ℕ) (m : Move) (w : World) → (moved n w m).held ≡ w.held
 unfolding moved is_born
@@ -69,6 +94,10 @@ move_held n (move.FrameSent m) w = refl
 move_held n (move.FrameUp m) w = refl
 move_held n (move.Cleared i booked) w = refl
 move_held n (move.Quiet i) w = refl
+move_held n (move.Froze m) w = epoch_held n m.tunnel (node_of m.peer) m.remote m.answer w
+move_held n (move.ResetAttempting m) w = enters_held n m.tunnel _ w
+move_held n (move.ResetAnswering m) w = enters_held n m.tunnel _ w
+move_held n m w = refl
 
 pub moved_held : (n : ℕ) (ms : List Move) (w : World) → (moved_all n ms w).held ≡ w.held
 unfolding moved_all

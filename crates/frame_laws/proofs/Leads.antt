@@ -1,10 +1,11 @@
 -- What a move leaves of a node and of the world: births and roles stay, and one tunnel of the end is put.
-use Rattle.std.proofs.Common.{◌≡◌, ⊎_elim, ℕ, ◌+◌, ◌-◌, ◌^◌, ◌<◌, ◌≤◌, true, List, sym, ap, ◌∙◌, subst, Some, Ok, arith}
+use Rattle.std.proofs.Common.{◌≡◌, ⊎_elim, ℕ, ◌+◌, ◌-◌, ◌^◌, ◌<◌, ◌≤◌, true, List, refl, sym, ap, ◌∙◌, subst, Some, Ok, arith}
 use Rattle.id_table.specs.Ids.{at, put}
 use Rattle.id_table.specs.Order.{ascends-put, found_put}
 use Rattle.l2tp_header.specs.declared.header.Header.{Header}
 use Rattle.l2tp_header.specs.Reading.{header_of, body_of}
 use Rattle.control_message.specs.declared.message.Message.{Message}
+use Rattle.control_message.specs.declared.message.Message.TheVariants.{Sccrq}
 use Rattle.end_model.specs.declared.event.Event.{Event}
 use Rattle.end_model.specs.declared.event.Event.TheVariants.{Datagram, Ring, Frame, Admitted, Payload, Lower, Lcp, Hang, OpenTunnel, DropCall, CloseTunnel, Tick}
 use Rattle.end_model.specs.declared.tunnel.Call.{Call}
@@ -15,6 +16,7 @@ use Rattle.end_model.specs.Tunnels.{Tunnel}
 use Rattle.end_model.specs.End.{End}
 use Rattle.world_model.specs.World.{World, Node}
 use Rattle.step_laws.specs.Moves.{Hears}
+use Rattle.frame_laws.specs.Unrecovered.{AsksForNone}
 use Rattle.frame_laws.specs.Written.{IsWritten}
 use Rattle.frame_laws.proofs.Facts.{Nodes, Grows, NamesItsCall, names_later, CallOk, CallsOk, TunnelOk, tunnel_later, EndOk}
 use Rattle.frame_laws.proofs.Births.{Counted}
@@ -79,6 +81,12 @@ heard_letter ns n ev heard peer session m h =
     let l = k.letters h.letter.header h.came.read h.came.control m (ap message_in (sym h.came.body_is) ∙ h.says.said) in
     let from : node_of peer ≡ k.from = ap node_of (sym h.peer_is ∙ k.address) ∙ node_again k.from k.number in
     (l.0, rw (from, ← h.says.session_is) l.1)
+
+-- what is heard asks for no recovery
+pub heard_asks : (ns : Nodes) (n : ℕ) (ev : Event) → Heard ns n ev → AsksForNone ev
+heard_asks ns n ev heard k came o said =
+    (heard_letter ns n ev heard k.peer k.header.session (Sccrq o)
+    (record { letter = k; came = came; peer_is = refl; says = record { session_is = refl; said = said } })).0.0.recovery
 
 -- the session that a faulty message tells has 16 bits
 pub heard_faulty : (ns : Nodes) (n : ℕ) (ev : Event) → Heard ns n ev → (peer : ℕ) (bytes : List ℕ) (h : Header) → ev ≡ Datagram peer bytes

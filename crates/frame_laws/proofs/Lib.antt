@@ -7,6 +7,7 @@ pub mod Leads
 pub mod Refusing
 pub mod Closing
 pub mod Declining
+pub mod WrittenLetters
 pub mod Moves
 pub mod Chains
 pub mod Datagrams

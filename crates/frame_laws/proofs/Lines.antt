@@ -23,7 +23,6 @@ use Rattle.end_names.specs.Names.{address_of}
 use Rattle.end_model.specs.Secrets.{uncovered_event}
 use Rattle.end_model.specs.End.{End, plain_step, step, step_in, gives_only}
 use Rattle.step_laws.specs.Lines.{tested_not, is_lac_at, is_lns_at, is_declared, has_call, has_tunnel, none_there, IsTimed, is_there, IsAt, at_moment, is_later, deliver_line, OfLoad, load_line, IsHeldAt, OfHand, hand_line, hand_steps}
-use Rattle.world_model.specs.declared.held.Held.{Held}
 use Rattle.world_model.specs.World.{World, Node, Checkpoint, Sender, Lined, quiet_line, with_node, after_step, given, declared, lac_at, lns_at, with_call, with_tunnel, later, new_node, answer_entries, added, block_of, stepped, sender_of, delivers, held_line, taken_up, hand_entry, behind_hand, line}
 use Rattle.step_laws.specs.Calm.{IsCalm, NodeIsCalm, WorldIsCalm, at_calm, calm_step}
 use Rattle.frame_laws.specs.Codecs.{Codecs}
@@ -64,6 +63,7 @@ quiet_goes number w v gs l holds counts same grows held = record {
     grown = ([], same ∙ sym (append-nil w.packets));
     grows = grows;
     held = λ h. subst (HeldIsSent v) (sym (append-nil gs)) (held h);
+    main = tt;
   };
   given = tt;
   told = refl;
@@ -442,6 +442,7 @@ module _ (codecs : Codecs) (laws : StepLaws) (number : ℕ) (w : World) (gs : Li
       grown = ok.goes.grown;
       grows = ok.goes.grows;
       held = ok.goes.held;
+      main = (tt, ok.goes.main);
     };
     given = ok.given;
     told = ap (λ es. hand_entry number n k.frame ∷ es) ok.told;
@@ -471,6 +472,7 @@ module _ (codecs : Codecs) (laws : StepLaws) (number : ℕ) (w : World) (gs : Li
           grown = o.goes.grown;
           grows = o.goes.grows;
           held = λ h. o.goes.held (one_less_held w gs h n held);
+          main = o.goes.main;
         };
         given = all_map (NodeGives number n q ev) (LineGives number w (Hand n held)) (no_frame w number n (Hand n held) ev None q tt (λ lns. (at_q, steps)))
             (sent_in (after_step v number n (record q { checkpoint = c }) None (step q.end q.clock (block_of n number) ev)).done) o.given;

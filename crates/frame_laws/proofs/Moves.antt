@@ -1,23 +1,18 @@
 -- What each move leaves: the letters that its tunnel keeps may be read, and its calls have their mates.
-use Rattle.std.proofs.Common.{IfSome, Option, None, ◌≡◌, ◌⊎◌, inl, inr, ⊎_elim, ℕ, ◌+◌, ◌<◌, ◌≤◌, Bool, true, false, cond, List, [], ◌∷◌, ◌++◌, length, refl, sym, ap, ◌∙◌, subst, Some, arith, Ok}
+use Rattle.std.proofs.Common.{None, ◌≡◌, ◌⊎◌, inl, inr, ⊎_elim, ℕ, ◌+◌, ◌<◌, ◌≤◌, Bool, List, [], ◌∷◌, ◌++◌, length, refl, sym, ap, ◌∙◌, subst, Some, arith, Ok}
 use Rattle.std.proofs.lemmas.Bool.{true≢false}
 use Rattle.std.proofs.lemmas.Option.{none-some}
-use Rattle.std.proofs.lemmas.List.{length-append}
-use Rattle.std.proofs.lemmas.Fmt.{length-decimal-le}
-use Rattle.std.specs.Fmt.{decimal}
-use Rattle.std.specs.Prelude.{◌==◌}
 use Rattle.id_source.specs.Spaces.{Space, takes_id, ceiling_for, draw_is, next_is}
-use Rattle.md5.proofs.StandardFacts.{length-md5}
 use Rattle.end_model.specs.declared.moves.Rejected.{Rejected}
 use Rattle.end_model.specs.declared.tunnel.CallPlace.{CallPlace}
-use Rattle.id_table.specs.Ids.{at, put, without, at-none}
+use Rattle.id_table.specs.Ids.{at, put, without}
 use Rattle.id_table.specs.Order.{Ascends, ascends-empty, ascends-put, ascends-without, at_new, at_other, found_put, found_without}
 use Rattle.wire_base.specs.declared.letter.Letter.{Letter}
 use Rattle.control_message.specs.declared.message.Message.{Message}
 use Rattle.control_message.specs.declared.message.Message.TheVariants.{Sccrq, Sccrp, Scccn, StopCcn, Hello, Icrq, Icrp, Cdn}
 use Rattle.call_fsm.specs.declared.table.CallEvent.TheVariants as call_event
 use Rattle.tunnel_fsm.specs.declared.table.TunnelState.TheVariants.{WaitCtlReply, WaitCtlConn, Established}
-use Rattle.control_channel.specs.Numbers.{count_acked, learnt_by}
+use Rattle.control_channel.specs.Numbers.{count_acked}
 use Rattle.end_model.specs.declared.event.Event.{Event}
 use Rattle.end_model.specs.declared.moves.Opened.{Opened}
 use Rattle.end_model.specs.declared.moves.Accepted.{Accepted}
@@ -44,25 +39,25 @@ use Rattle.end_model.specs.declared.moves.Counted.{Counted}
 use Rattle.end_model.specs.declared.moves.Move.{Move}
 use Rattle.end_model.specs.declared.moves.Move.TheVariants as move
 use Rattle.end_model.specs.declared.tunnel.Call.{Call}
-use Rattle.end_model.specs.declared.tunnel.Config.{Config}
 use Rattle.end_model.specs.declared.tunnel.Control.{Control}
 use Rattle.end_names.specs.declared.role.Role.{Role}
 use Rattle.end_names.specs.declared.role.Role.TheVariants.{Lac, Lns}
-use Rattle.end_names.specs.Names.{node_of, host_name, calling_number}
+use Rattle.end_names.specs.Names.{node_of, calling_number}
 use Rattle.end_model.specs.Calls.{advanced, with_numbers, counted, rung, asked_for}
 use Rattle.end_model.specs.Tunnels.{Tunnel, new_tunnel}
-use Rattle.end_model.specs.Channels.{letter_of, letter_as, counts_given, counts_taken, learns_window}
+use Rattle.end_model.specs.Channels.{letter_of, counts_given, counts_taken, learns_window}
 use Rattle.end_model.specs.Messages.{flags_of, opening_of, request_of, connection}
 use Rattle.end_model.specs.Links.{with_link}
 use Rattle.end_model.specs.End.{End, new_place}
 use Rattle.world_model.specs.World.{World, Node, with_birth, is_born, birth_of, moved}
 use Rattle.step_laws.specs.Callers.{wanted_by_lac}
-use Rattle.step_laws.specs.Moves.{heard_from, Rejects, Asks, Responds, with_tunnel, with_letter, begun, Opens, Accepts, Connects, Confirms, Adds as AddsCall, Requests, Replies, ComesUpFirst, ComesUpSecond, Refuses, TellsEnd, HearsEnd, EndsSilently, Closes, ClosesBy, Clears, Greets, TakesPlain, Reads, LetsGo, Repeats, Negotiates, Counts, without_call, without_calls, Does}
+use Rattle.step_laws.specs.Moves.{heard_from, Rejects, with_tunnel, with_letter, begun, Opens, Accepts, Connects, Confirms, Adds as AddsCall, Requests, Replies, ComesUpFirst, ComesUpSecond, Refuses, TellsEnd, HearsEnd, EndsSilently, Closes, ClosesBy, Clears, Greets, TakesPlain, Reads, LetsGo, Repeats, Negotiates, Counts, without_call, without_calls, Does}
 use Rattle.call_link.specs.Link.{new_link}
 use Rattle.call_link.specs.Laws.{turn_at}
-use Rattle.frame_laws.specs.Plain.{HidesOk, number_hides}
-use Rattle.frame_laws.specs.Written.{IsWritten, IsWrittenOpening}
-use Rattle.frame_laws.proofs.Facts.{Nodes, Born, Plays, Grows, same_nodes, Mates, swapped, NamesItsCall, KnowsItsMate, CallOk, call_later, CallsOk, LetterOk, LettersOk, letters_later, TunnelOk, tunnel_later, all_push, all_drop}
+use Rattle.frame_laws.specs.Plain.{number_hides}
+use Rattle.frame_laws.specs.Written.{IsWritten}
+use Rattle.frame_laws.specs.Unrecovered.{NoneRecovers, IsMain}
+use Rattle.frame_laws.proofs.Facts.{Born, Plays, Grows, same_nodes, Mates, swapped, NamesItsCall, KnowsItsMate, CallOk, call_later, CallsOk, LetterOk, LettersOk, letters_later, TunnelOk, tunnel_later, all_push, all_drop}
 use Rattle.frame_laws.proofs.Changes.{next_birth, some_birth, with_one, born_nodes, born_packets, born_count, made_count, made_nodes, made_packets, Changed, birth_is, plays_at, grows, Adds, NextBirth, SameBirth}
 use Rattle.frame_laws.proofs.Births.{not_lns, counted_after}
 use Rattle.step_laws.specs.Codes.{letter_codes_fit, codes_fit, stop_codes_fit}
@@ -70,95 +65,7 @@ use Rattle.frame_laws.proofs.Refusing.{refusal_fits}
 use Rattle.frame_laws.proofs.Closing.{told_fits, closing_fits}
 use Rattle.frame_laws.proofs.Rows.{request_row, reply_row, second_row, rung_row}
 use Rattle.frame_laws.proofs.Leads.{Heard, heard_letter, At, Leads, Sets, calls_put, end_put}
-
--- ---- messages that are written
-
-name_fits : (r : Role) (n : ℕ) → n < 256 → length (host_name r n) ≤ 1017
-unfolding host_name
-name_fits r n lt = by r (length-decimal-le 3 n (omega arith) (omega arith) (omega arith))
-  where
-    by : (r : Role) → length (decimal n) ≤ 3 → length (host_name r n) ≤ 1017
-    by Lac le = simp length-append (omega arith)
-    by Lns le = simp length-append (omega arith)
-
--- what is asked fits into a pair, and what is answered has 16 bytes
-asks_short : (secret challenge : Option (List ℕ)) → Asks secret challenge → IfSome challenge (λ v. length v ≤ 1017)
-asks_short None challenge is = rw is tt
-asks_short (Some s) challenge is = let sized = is.2 in rw is.1 (omega (arith, sized))
-
-responds_sized : (kind : ℕ) (secret asked response : Option (List ℕ)) → Responds kind secret asked response → IfSome response (λ v. length v ≡ 16)
-responds_sized kind None asked response is = rw is tt
-responds_sized kind (Some s) None response is = rw is tt
-responds_sized kind (Some s) (Some a) response is = rw is (length-md5 (kind ∷ s ++ a))
-
-opening_written : (r : Role) (c : Config) (challenge response : Option (List ℕ)) (local : ℕ) → c.number < 256 → 0 < local → local < 65536
-    → IfSome challenge (λ v. length v ≤ 1017) → IfSome response (λ v. length v ≡ 16) → IsWrittenOpening (opening_of r c challenge response local)
-opening_written r c challenge response local lt some fits short sized =
-    record {
-      version = refl;
-      framing = omega arith;
-      name = name_fits r c.number lt;
-      tunnel = fits;
-      tunnel_not_zero = some;
-      window = omega arith;
-      window_not_zero = omega arith;
-      failover = (omega arith, omega arith);
-      challenge = short;
-      response = sized;
-      recovery = refl;
-      suggested = refl;
-      attempt = refl;
-    }
-
-request_written : ((who : List ℕ) → length (calling_number who) ≡ 12) → (s : ℕ) (who : List ℕ) → s < 65536 → IsWritten (request_of s who)
-request_written digits s who fits = (omega arith, omega arith, (let d = digits who in omega arith))
-
-asked_remote : (r : Role) (remote moment : ℕ) → (asked_for r remote moment).remote ≡ remote
-unfolding asked_for advanced
-asked_remote r remote moment = refl
-
-rung_remote : (r : Role) (who : List ℕ) (moment : ℕ) → (rung r who moment).remote ≡ 0
-unfolding rung advanced
-rung_remote r who moment = refl
-
--- a call that is made has no link yet
-asked_link : (r : Role) (remote moment : ℕ) → (asked_for r remote moment).link ≡ None
-unfolding asked_for advanced
-asked_link r remote moment = refl
-
-rung_link : (r : Role) (who : List ℕ) (moment : ℕ) → (rung r who moment).link ≡ None
-unfolding rung advanced
-rung_link r who moment = refl
-
-no_calls : (ns : Nodes) (n : ℕ) (r : Role) (bound peer : ℕ) → CallsOk ns n r bound peer []
-no_calls ns n r bound peer s c f = absurd (none-some c (sym (at-none s) ∙ f))
-
--- the ids of a control stay when the peer's window becomes known
-record SameIds (c d : Control) : Type 0 where
-  local : d.local ≡ c.local
-  peer : d.peer ≡ c.peer
-  remote : d.remote ≡ c.remote
-
-learnt : (window : ℕ) (c : Control) → SameIds c (learns_window window c)
-learnt window c = by (window == 0)
-  where
-    by : (none : Bool) → SameIds c (cond none c (record c { channel = learnt_by c.channel window }))
-    by true = record { local = refl; peer = refl; remote = refl }
-    by false = record { local = refl; peer = refl; remote = refl }
-
--- a letter, plain or not
-letter_ok : (ns : Nodes) (n peer session : ℕ) (m : Message) (hidden : Option (List ℕ)) → HidesOk m hidden → session < 65536 → IsWritten m
-    → NamesItsCall ns n (node_of peer) session m → LetterOk ns n peer (letter_as session m hidden)
-letter_ok ns n peer session m None hides fits written names =
-    record { message = m; hidden = None; hides = hides; spelt = refl; session = fits; written = written; names = names }
-letter_ok ns n peer session m (Some pairs) hides fits written names =
-    record { message = m; hidden = Some pairs; hides = hides; spelt = refl; session = fits; written = written; names = names }
-
--- one more letter is given
-one_more : (ns : Nodes) (n peer : ℕ) (ls : List Letter) → LettersOk ns n peer ls → (session : ℕ) (m : Message) → session < 65536 → IsWritten m
-    → NamesItsCall ns n (node_of peer) session m → LettersOk ns n peer (ls ++ letter_of session m ∷ [])
-one_more ns n peer ls olds session m fits written names =
-    all_push (LetterOk ns n peer) ls (letter_of session m) olds (letter_ok ns n peer session m None tt fits written names)
+pub use Rattle.frame_laws.proofs.WrittenLetters.{name_fits, asks_short, responds_sized, opening_written, request_written, asked_remote, rung_remote, asked_link, rung_link, no_calls, SameIds, learnt, letter_ok, one_more}
 
 module _ (digits : (who : List ℕ) → length (calling_number who) ≡ 12) (n : ℕ) (z : End) (v : World) (x : End)
     (here : At n z v x) (ev : Event) (heard : Heard v.nodes n ev) where
@@ -250,6 +157,7 @@ module _ (digits : (who : List ℕ) → length (calling_number who) ≡ 12) (n :
         letters = one_more v.nodes n m.peer [] tt 0 (Sccrq (opening_of x.role x.config m.challenge None m.tunnel)) (omega arith) written tt;
         calls = no_calls v.nodes n x.role x.session_ids.next m.peer;
         order = ascends-empty [] refl;
+        recovery = refl;
       }))
 
   accepted_led : (moment : ℕ) (m : Accepted) (y : End) → Accepts x moment ev m y → Led v y
@@ -276,6 +184,7 @@ module _ (digits : (who : List ℕ) → length (calling_number who) ≡ 12) (n :
         letters = one_more v.nodes n c.peer [] tt 0 (Sccrp (opening_of x.role x.config m.challenge m.response m.tunnel)) (omega arith) written tt;
         calls = no_calls v.nodes n x.role x.session_ids.next c.peer;
         order = ascends-empty [] refl;
+        recovery = refl;
       }))
 
   -- an end that differs from this one in a tunnel alone, and in what the data plane sees
@@ -301,7 +210,15 @@ module _ (digits : (who : List ℕ) → length (calling_number who) ≡ 12) (n :
       let o = here.end.tunnels i t there in
       subst (λ e. Led v e) (sym same)
       (led_still (with_tunnel x i u) i u (sets_tunnel x.calls i u) refl
-      (record { local = local ∙ o.local; drawn = o.drawn; remote = remote; letters = rw peer letters; calls = rw peer o.calls; order = o.order }))
+      (record {
+        local = local ∙ o.local;
+        drawn = o.drawn;
+        remote = remote;
+        letters = rw peer letters;
+        calls = rw peer o.calls;
+        order = o.order;
+        recovery = o.recovery;
+      }))
 
   -- the letters of a tunnel, with one more
   more_letters : (i : ℕ) (t : Tunnel) → at x.tunnels i ≡ Some t → (session : ℕ) (m : Message) → session < 65536 → IsWritten m
@@ -364,6 +281,7 @@ module _ (digits : (who : List ℕ) → length (calling_number who) ≡ 12) (n :
         letters = rw peer letters;
         calls = rw (sets.role, next, peer) are;
         order = order;
+        recovery = o.recovery;
       })
 
   -- a call of the tunnel goes on
@@ -525,6 +443,7 @@ module _ (digits : (who : List ℕ) → length (calling_number who) ≡ 12) (n :
         letters = rw peer letters;
         calls = no_calls v.nodes n x.role x.session_ids.next c.peer;
         order = ascends-empty [] refl;
+        recovery = o.recovery;
       }))
 
   closed_led : (moment : ℕ) (m : Closed) (y : End) → Closes x moment ev m y → Led v y
@@ -662,6 +581,7 @@ module _ (digits : (who : List ℕ) → length (calling_number who) ≡ 12) (n :
           letters = rw peer letters;
           calls = rw (sets.role, next, peer) calls;
           order = ascends-put s k t.calls o.order;
+          recovery = o.recovery;
         })
 
     -- the letters that a tunnel had may still be read
@@ -764,34 +684,39 @@ module _ (digits : (who : List ℕ) → length (calling_number who) ≡ 12) (n :
       (rw (asked_remote x.role m.remote moment) s.0.0) (rw (asked_remote x.role m.remote moment) (inr mates)) (λ k. rw (asked_remote x.role m.remote moment) mates)
       (asked_link x.role m.remote moment)))
 
+  -- so no tunnel has a recovery tunnel, and each move is main
+  pub none_recovers : NoneRecovers x
+  none_recovers i t there = (here.end.tunnels i t there).recovery
+
   -- each move
-  pub does_led : (moment : ℕ) (m : Move) (y : End) → Does x moment ev m y → Led (moved n v m) y
+  pub does_led : (moment : ℕ) (m : Move) → IsMain m → (y : End) → Does x moment ev m y → Led (moved n v m) y
   unfolding moved
-  does_led moment (move.Opened m) y h = opened_led moment m y h
-  does_led moment (move.Accepted m) y h = accepted_led moment m y h
-  does_led moment (move.Connected m) y h = connected_led m y h
-  does_led moment (move.Confirmed m) y h = confirmed_led m y h
-  does_led moment (move.Added m) y h = added_led moment m y h
-  does_led moment (move.Requested m) y h = requested_led moment m y h
-  does_led moment (move.Replied m) y h = replied_led moment m y h
-  does_led moment (move.FirstUp m) y h = first_led moment m y h
-  does_led moment (move.SecondUp m) y h = second_led moment m y h
-  does_led moment (move.Refused m) y h = refused_led m y h
-  does_led moment (move.EndTold m) y h = told_led moment m y h
-  does_led moment (move.EndHeard m) y h = heard_led m y h
-  does_led moment (move.EndSilent m) y h = silent_led moment m y h
-  does_led moment (move.Declined m) y h = led_same y h.after
-  does_led moment (move.Closed m) y h = closed_led moment m y h
-  does_led moment (move.Rejected m) y h = rejected_led moment m y h
-  does_led moment (move.ClosedBy m) y h = closed_by_led moment m y h
-  does_led moment (move.Cleared i booked) y h = cleared_led moment i booked y h
-  does_led moment (move.Greeted m) y h = greeted_led moment m y h
-  does_led moment (move.TookPlain m) y h = plain_led m y h
-  does_led moment (move.NrRead m) y h = read_led moment m y h
-  does_led moment (move.LetGo m) y h = let_go_led moment m y h
-  does_led moment (move.Repeated m) y h = repeated_led moment m y h
-  does_led moment (move.Quiet i) y h = led_same y h.after
-  does_led moment (move.Negotiated m) y h = negotiated_led moment m y h
-  does_led moment (move.Counted m) y h = counted_led moment m y h
-  does_led moment (move.FrameSent m) y h = led_same y h.after
-  does_led moment (move.FrameUp m) y h = led_same y h.after
+  does_led moment (move.Opened m) main y h = opened_led moment m y h
+  does_led moment (move.Accepted m) main y h = accepted_led moment m y h
+  does_led moment (move.Connected m) main y h = connected_led m y h
+  does_led moment (move.Confirmed m) main y h = confirmed_led m y h
+  does_led moment (move.Added m) main y h = added_led moment m y h
+  does_led moment (move.Requested m) main y h = requested_led moment m y h
+  does_led moment (move.Replied m) main y h = replied_led moment m y h
+  does_led moment (move.FirstUp m) main y h = first_led moment m y h
+  does_led moment (move.SecondUp m) main y h = second_led moment m y h
+  does_led moment (move.Refused m) main y h = refused_led m y h
+  does_led moment (move.EndTold m) main y h = told_led moment m y h
+  does_led moment (move.EndHeard m) main y h = heard_led m y h
+  does_led moment (move.EndSilent m) main y h = silent_led moment m y h
+  does_led moment (move.Declined m) main y h = led_same y h.after
+  does_led moment (move.Closed m) main y h = closed_led moment m y h
+  does_led moment (move.Rejected m) main y h = rejected_led moment m y h
+  does_led moment (move.ClosedBy m) main y h = closed_by_led moment m y h
+  does_led moment (move.Cleared i booked) main y h = cleared_led moment i booked y h
+  does_led moment (move.Greeted m) main y h = greeted_led moment m y h
+  does_led moment (move.TookPlain m) main y h = plain_led m y h
+  does_led moment (move.NrRead m) main y h = read_led moment m y h
+  does_led moment (move.LetGo m) main y h = let_go_led moment m y h
+  does_led moment (move.Repeated m) main y h = repeated_led moment m y h
+  does_led moment (move.Quiet i) main y h = led_same y h.after
+  does_led moment (move.Negotiated m) main y h = negotiated_led moment m y h
+  does_led moment (move.Counted m) main y h = counted_led moment m y h
+  does_led moment (move.FrameSent m) main y h = led_same y h.after
+  does_led moment (move.FrameUp m) main y h = led_same y h.after
+  does_led moment m main y h = absurd main

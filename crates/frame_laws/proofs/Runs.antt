@@ -14,6 +14,7 @@ use Rattle.world_model.specs.Run.{Run, empty_run, after_line, goes_on, run_from}
 use Rattle.step_laws.specs.Calm.{IsCalm, AreCalm, WorldIsCalm, calm_line}
 use Rattle.frame_laws.specs.Codecs.{Codecs}
 use Rattle.frame_laws.specs.Births.{BirthsOfRuns}
+use Rattle.frame_laws.specs.Unrecovered.{IsMain, MovesOfRuns}
 use Rattle.frame_laws.specs.Past.{Passage, sent_by, handed_by, sent_in, handed_in}
 use Rattle.std.proofs.lemmas.List.{append-nil, length-append}
 use Rattle.frame_laws.specs.Frames.{WasSent, IsCarried, IsGiven, ByItsLine, ByItsHost, ByItsLink, GivesByFrame, GivesByLink, FramesOfRuns, PacketsOfRuns, GivenInRuns}
@@ -57,6 +58,7 @@ record RunOk (number : ℕ) (r : Run) : Type 0 where
   pub sent : AllByRecursion (WasSent (sent_in r.done)) (handed_in r.done)
   -- each frame that was sent is in a packet of the world
   pub carried : AllByRecursion (IsCarried r.world.packets) (sent_in r.done)
+  pub main : AllByRecursion (λ (d : Deed). IsMain d.move) r.done
 
 run_goes_on : (number : ℕ) (r : Run) (x : Lined) → RunOk number r → WorldIsCalm x.world → Goes number r.world (sent_in r.done) x.world x.done → RunOk (number + 1) (after_line r x)
 run_goes_on number r x ok calm g =
@@ -75,6 +77,7 @@ run_goes_on number r x ok calm g =
       carried = rw is
           (all_append (IsCarried x.world.packets) gs hs
           (all_map (IsCarried r.world.packets) (IsCarried x.world.packets) (carried_later r.world.packets x.world.packets g.grown) gs ok.carried) g.carried);
+      main = all_append (λ (d : Deed). IsMain d.move) r.done x.done ok.main g.main;
     }
 
 none_held : (n number : ℕ) → at (held_at empty_world n) number ≡ None
@@ -93,6 +96,7 @@ begins =
       lines = tt;
       sent = tt;
       carried = tt;
+      main = tt;
     }
 
 -- after some number of lines
@@ -103,7 +107,8 @@ no_nodes : (i s x : ℕ) → Born empty_world.nodes i s x → None ≡ Some x
 no_nodes i s x h = sym (ap (λ (o : Option Node). birth_in_node o s) (at-none i)) ∙ h
 
 stopped : (number : ℕ) (r : Run) (fault : Option (ℕ × Refusal)) → RunOk number r → RunOk number (record r { fault = fault })
-stopped number r fault ok = record { holds = ok.holds; held = ok.held; calm = ok.calm; lines = ok.lines; sent = ok.sent; carried = ok.carried }
+stopped number r fault ok =
+    record { holds = ok.holds; held = ok.held; calm = ok.calm; lines = ok.lines; sent = ok.sent; carried = ok.carried; main = ok.main }
 
 -- the lines of a text from a place on
 abbrev StandsAt : List Line → ℕ → List Line → Type 0
@@ -222,6 +227,9 @@ module _ (codecs : Codecs) (laws : StepLaws) where
 
   pub held_of_runs : HeldOfRuns
   held_of_runs lines fits calm = (ended_from 1 lines empty_run fits calm begins).1.held
+
+  pub moves_of_runs : MovesOfRuns
+  moves_of_runs lines fits calm = (ended_from 1 lines empty_run fits calm begins).1.main
 
   pub facts_of_runs : FactsOfRuns
   facts_of_runs lines fits calm = (ended_from 1 lines empty_run fits calm begins).1.holds

@@ -82,6 +82,7 @@ module _ (line n : ℕ) (r : Role) (sender : Option Sender) (v : World) where
   deeds_told (move.Negotiated m ∷ ms) = deeds_told ms
   deeds_told (move.Counted m ∷ ms) = deeds_told ms
   deeds_told (move.FrameSent m ∷ ms) = deeds_told ms
+  deeds_told (m ∷ ms) = deeds_told ms
 
   pub ups_told : (s : Stepped) → flat_map ups_of_output s.outputs ≡ flat_map ups_of_move s.moves
       → ups_in (entries_of line n s.outputs v) ≡ told_of (deeds v line n r sender s.moves)

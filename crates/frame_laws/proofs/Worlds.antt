@@ -26,12 +26,13 @@ use Rattle.world_model.specs.declared.packet.Packet.{Packet}
 use Rattle.end_names.specs.declared.role.Role.{Role}
 use Rattle.end_names.specs.Names.{address_of, node_of}
 use Rattle.l2tp_header.specs.Reading.{body_of}
-use Rattle.end_model.specs.Tunnels.{Tunnel}
+use Rattle.end_model.specs.Tunnels.{Tunnel, Recovering}
 use Rattle.end_model.specs.End.{plain_step, End, Stepped}
-use Rattle.world_model.specs.World.{World, Node, Checkpoint, Sender, Deed, Lined, with_node, moved_all, packet_from, sent, shown, shown_all, given, after_step}
-use Rattle.step_laws.specs.Letters.{Among, Carries, ALetter, Nothing, AFrame, HasOutput}
+use Rattle.world_model.specs.World.{World, Node, Checkpoint, Sender, Deed, Lined, with_node, moved_all, epoch_sent, packet_from, sent, shown, shown_all, given, after_step}
+use Rattle.step_laws.specs.Letters.{Among, Carries, ALetter, Nothing, AFrame, InRecovery, NothingInRecovery, HasOutput}
 use Rattle.step_laws.specs.Links.{WhySent, IsGiven, IsOfLink}
-use Rattle.step_laws.specs.Steps.{InChain, IsOfMoves, IsDecline, IsChain}
+use Rattle.step_laws.specs.Steps.{InChain, IsOfMoves, IsDecline, IsChain, IsOfNoStart}
+use Rattle.frame_laws.specs.Unrecovered.{IsMain}
 use Rattle.step_laws.specs.Codes.{decline_codes_fit}
 use Rattle.frame_laws.specs.Codecs.{Codecs}
 use Rattle.frame_laws.specs.Past.{Passage, sent_in, handed_in}
@@ -40,13 +41,13 @@ use Rattle.frame_laws.proofs.Facts.{StepLaws, Nodes, Plays, Grows, Mates, WasSen
 use Rattle.frame_laws.proofs.Changes.{birth_is, role_there, Changed, grows, NoBirth}
 use Rattle.frame_laws.proofs.Births.{is_lns, Counted, counted_after}
 use Rattle.frame_laws.proofs.Leads.{Heard, heard_later, At, node_again}
-use Rattle.frame_laws.proofs.Chains.{moved_more, Ran, ran, SentThen, sent_then, same_role}
+use Rattle.frame_laws.proofs.Chains.{moved_more, Ran, ran, all_main, SentThen, sent_then, same_role}
 use Rattle.frame_laws.proofs.Declining.{declined_fits}
 use Rattle.frame_laws.proofs.Datagrams.{letter_ok, alone_ok, frame_ok}
 use Rattle.frame_laws.specs.Reports.{ups_in, told_of}
 use Rattle.frame_laws.proofs.Held.{moved_held, shown_held}
 use Rattle.frame_laws.proofs.Ups.{ups_told}
-use Rattle.frame_laws.proofs.Deeds.{all_among, done_among, deeds, sends, hands, each_sent, each_handed, sent_among}
+use Rattle.frame_laws.proofs.Deeds.{all_before, all_behind, all_among, done_among, deeds, each_done, sends, hands, each_sent, each_handed, sent_among}
 
 -- ---- what is shown
 
@@ -116,7 +117,7 @@ shown_more n [] w = no_more w.packets
 shown_more n (Send peer bytes origin ∷ os) w =
     let v = sent w n (node_of peer) bytes origin in
     let r = shown_more n os v in
-    let one : Packet = packet_from n (node_of peer) bytes origin in
+    let one : Packet = packet_from n (node_of peer) bytes origin (epoch_sent w n origin) in
     (one ∷ r.0, r.1 ∙ append_assoc w.packets (one ∷ []) r.0)
 shown_more n (Up session side frame ∷ os) w = shown_more n os w
 shown_more n (Gone session ∷ os) w = shown_more n os w
@@ -147,7 +148,7 @@ in_more before after more from to bytes o h =
 sent_there : (n : ℕ) (w : World) (peer : ℕ) (bytes : List ℕ) (o : Origin) → InPacket (sent w n (node_of peer) bytes o).packets n (node_of peer) bytes o
 unfolding sent
 sent_there n w peer bytes o = record {
-  packet = packet_from n (node_of peer) bytes o;
+  packet = packet_from n (node_of peer) bytes o (epoch_sent w n o);
   there = among_right _ w.packets _ (inl refl);
   from_is = refl;
   to_is = refl;
@@ -205,6 +206,7 @@ pub record Goes (number : ℕ) (w : World) (gs : List Passage) (after : World) (
   pub grown : HasMore w.packets after.packets
   pub grows : Grows w.nodes after.nodes
   pub held : HeldIsSent w gs → HeldIsSent after (gs ++ sent_in more)
+  pub main : AllByRecursion (λ (d : Deed). IsMain d.move) more
 
 -- no passage has a line that is later
 pub earlier : (number : ℕ) (gs : List Passage) → Below number gs → (g : Passage) → Among g gs → g.line < number
@@ -275,6 +277,9 @@ module _ (codecs : Codecs) (laws : StepLaws) (number : ℕ) (w : World) (gs : Li
   chain : IsChain old.end moment ev s
   chain = laws.chains old.end ok.kept moment block ev
 
+  starts : AllByRecursion IsOfNoStart s.moves
+  starts = laws.starts old.end moment block ev
+
   abbrev ended : Node
   ended = record timed { end = s.end }
 
@@ -328,11 +333,11 @@ module _ (codecs : Codecs) (laws : StepLaws) (number : ℕ) (w : World) (gs : Li
   heard = heard_later w.nodes base.nodes begun n ev (heard_of w gs n ev real)
 
   r : Ran codecs.digits n s.end moment ev base v old.end s.end
-  r = ran codecs.digits n s.end moment ev base old.end s.end here heard s.moves chain.chain
+  r = ran codecs.digits n s.end moment ev base old.end s.end here heard s.moves starts chain.chain
 
   -- a frame that it sends
   sent_here : (f : FrameSent) → Among (move.FrameSent f) s.moves → SentThen codecs.digits n s.end moment ev v.nodes old.end s.moves f
-  sent_here f a = sent_then codecs.digits n s.end moment ev base old.end s.end here heard s.moves chain.chain f a
+  sent_here f a = sent_then codecs.digits n s.end moment ev base old.end s.end here heard s.moves starts chain.chain f a
 
   grown : Grows w.nodes v.nodes
   grown = grows_on w.nodes base.nodes v.nodes begun r.grows.grows
@@ -383,15 +388,19 @@ module _ (codecs : Codecs) (laws : StepLaws) (number : ℕ) (w : World) (gs : Li
 
   -- an end of the step's chain holds what ends do, in the nodes that the whole step leads to
   module _ (amid : InChain moment ev old.end s.moves s.end) where
+    started : AllByRecursion IsOfNoStart (amid.made ++ amid.rest)
+    started = subst (AllByRecursion IsOfNoStart) amid.moves_are starts
+
     abbrev reached : World
     reached = moved_all n amid.made base
 
     made_ran : Ran codecs.digits n s.end moment ev base reached old.end amid.end
-    made_ran = ran codecs.digits n s.end moment ev base old.end amid.end here heard amid.made amid.comes
+    made_ran = ran codecs.digits n s.end moment ev base old.end amid.end here heard amid.made
+        (all_before IsOfNoStart amid.made amid.rest started) amid.comes
 
     rest_ran : Ran codecs.digits n s.end moment ev reached (moved_all n amid.rest reached) amid.end s.end
     rest_ran = ran codecs.digits n s.end moment ev reached amid.end s.end made_ran.at_end
-        (heard_later base.nodes reached.nodes made_ran.grows.grows n ev heard) amid.rest amid.goes
+        (heard_later base.nodes reached.nodes made_ran.grows.grows n ev heard) amid.rest (all_behind IsOfNoStart amid.made amid.rest started) amid.goes
 
     whole : v ≡ moved_all n amid.rest reached
     whole = ap (λ ms. moved_all n ms base) amid.moves_are ∙ moved_more n amid.made amid.rest base
@@ -406,6 +415,9 @@ module _ (codecs : Codecs) (laws : StepLaws) (number : ℕ) (w : World) (gs : Li
     module _ (peer id : ℕ) (tunnel : Tunnel) (there : at amid.end.tunnels id ≡ Some tunnel) (peer_is : peer ≡ tunnel.control.peer) where
       abbrev bytes_ok : List ℕ → Type 0
       bytes_ok bytes = BytesOk v.nodes (gs ++ more) n (node_of peer) bytes
+
+      none_carries : (r : Recovering) → tunnel.recovery ≡ Some r → ⊥
+      none_carries r has = none-some r (sym (amid_ok.tunnels id tunnel there).recovery ∙ has)
 
       carries_ok : (bytes : List ℕ) (o : Origin) → Carries tunnel amid.made bytes o → bytes_ok bytes
       carries_ok bytes o (ALetter l number small among origin_is are) =
@@ -427,6 +439,9 @@ module _ (codecs : Codecs) (laws : StepLaws) (number : ℕ) (w : World) (gs : Li
           let mates : Mates v.nodes n f.session (node_of peer) f.remote = subst (λ q. Mates v.nodes n f.session (node_of q) f.remote) to_peer k.mates in
           let was_sent = sent_in_call f b (node_of peer) f.remote (ap node_of to_peer) mates in
           rw are (frame_ok codecs v.nodes (gs ++ more) n (node_of peer) tunnel.control.remote f.remote f.number f.frame to.remote k.fits number was_sent)
+      -- no tunnel has a recovery tunnel
+      carries_ok bytes o (InRecovery r has m said number nr origin_is are) = absurd (none_carries r has)
+      carries_ok bytes o (NothingInRecovery r has number nr origin_is are) = absurd (none_carries r has)
 
   -- a StopCCN of no tunnel names no call
   declined_ok : (peer : ℕ) (bytes : List ℕ) (o : Origin) → IsDecline s.moves peer bytes o → BytesOk v.nodes (gs ++ more) n (node_of peer) bytes
@@ -564,6 +579,8 @@ module _ (codecs : Codecs) (laws : StepLaws) (number : ℕ) (w : World) (gs : Li
     grown = grown_packets;
     grows = grown_shown;
     held = held_later w (shown_all n s.outputs v) (shown_held n s.outputs v ∙ moved_held n s.moves base) grown_shown gs more;
+    main = each_done v number n old.end.role sender IsMain s.moves
+        (all_main codecs.digits n s.end moment ev base old.end s.end here heard s.moves starts chain.chain);
   }
 
   pub step_ok : StepOk number w gs n old.end moment block ev (after_step w number n timed sender s)

@@ -24,7 +24,7 @@ use Rattle.end_model.specs.End.{End}
 use Rattle.step_laws.specs.Calm.{AreCalm}
 use Rattle.step_laws.specs.Letters.{Among}
 use Rattle.step_laws.specs.Looks.{LooksAreTrue, LooksStayTrue}
-use Rattle.step_laws.specs.Steps.{AreKept, StepsAreChains}
+use Rattle.step_laws.specs.Steps.{AreKept, StepsAreChains, StepsAreNoStarts}
 use Rattle.step_laws.specs.Ups.{UpsAreMoves}
 use Rattle.schedule_text.specs.declared.line.Line.{Line}
 use Rattle.schedule_text.specs.Grammar.{AreLines}
@@ -169,6 +169,8 @@ pub record TunnelOk (ns : Nodes) (n : ℕ) (e : End) (i : ℕ) (t : Tunnel) : Ty
   pub letters : LettersOk ns n t.control.peer t.letters
   pub calls : CallsOk ns n e.role e.session_ids.next t.control.peer t.calls
   pub order : Ascends t.calls
+  -- nobody recovers it
+  pub recovery : t.recovery ≡ None
 
 pub record EndOk (ns : Nodes) (n : ℕ) (e : End) : Type 0 where
   pub number : e.config.number < 256
@@ -216,6 +218,7 @@ pub record StepLaws : Type 0 where
   pub chains : StepsAreChains
   pub looks : LooksStayTrue
   pub ups : UpsAreMoves
+  pub starts : StepsAreNoStarts
 
 -- after the run of each list of lines of the grammar, where no node crashes, is to stop, or starts, what the data plane of each node sees is so
 abbrev pub LooksOfRuns : Type 0

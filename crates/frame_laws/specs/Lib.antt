@@ -6,3 +6,4 @@ pub mod Frames
 pub mod Facts
 pub mod Births
 pub mod Reports
+pub mod Unrecovered

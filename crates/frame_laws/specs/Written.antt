@@ -1,4 +1,4 @@
--- What ends write so far: the codec's messages, but for what a recovery tells, and the queries of sessions.
+-- What ends write where nothing is recovered: the codec's messages, but for what a recovery tells, and the queries of sessions.
 use Rattle.std.specs.Prelude.{◌≡◌, ◌<◌, ◌≤◌, ◌^◌, length, None, IsSomeAnd, IfSome}
 use Rattle.control_message.specs.declared.message.Message.{Message}
 use Rattle.control_message.specs.declared.message.Message.TheVariants.{Sccrq, Sccrp, Fsq, Fsr}

@@ -6,6 +6,7 @@ ghost use Rattle.frame_laws.specs.Codecs.{Codecs};
 ghost use Rattle.frame_laws.specs.Facts.{FactsOfRuns, HeldOfRuns, LooksOfRuns, StepLaws};
 ghost use Rattle.frame_laws.specs.Frames.{FramesOfRuns, GivenInRuns, PacketsOfRuns};
 ghost use Rattle.frame_laws.specs.Reports.{ReportsOfRuns};
+ghost use Rattle.frame_laws.specs.Unrecovered.{MovesOfRuns};
 
 /// What the codecs promise of what they write.
 pub fn written_is_read_again()
@@ -26,6 +27,7 @@ fn laws_of_steps()
     step_laws::steps_are_chains();
     step_laws::looks_are_true();
     step_laws::ups_are_moves();
+    step_laws::steps_are_no_starts();
 }
 
 /// Over every list of lines of the grammar in which no node crashes, is to stop, or starts, each frame that an end hands
@@ -90,6 +92,14 @@ pub fn looks_are_true()
 /// one birth are one session: a birth is one subscriber's call.
 pub fn births_are_apart()
     ensures { BirthsOfRuns }
+{
+    written_is_read_again();
+    laws_of_steps();
+}
+
+/// In every run of lines of the grammar in which no node crashes, is to stop, or starts, no move is one of a recovery.
+pub fn moves_are_main()
+    ensures { MovesOfRuns }
 {
     written_is_read_again();
     laws_of_steps();

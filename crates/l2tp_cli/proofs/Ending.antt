@@ -11,7 +11,7 @@ use Rattle.schedule_text.specs.declared.line.Line.{Line}
 use Rattle.schedule_text.specs.declared.error.ScheduleError.{ScheduleError}
 use Rattle.schedule_text.specs.Reading.{lines_of}
 use Rattle.world_model.specs.declared.refusal.Refusal.{Refusal}
-use Rattle.world_model.specs.declared.refusal.Refusal.TheVariants.{Unfit, HalfSpace, StoreFull}
+use Rattle.world_model.specs.declared.refusal.Refusal.TheVariants.{Unfit, HalfSpace, Stale, StoreFull}
 use Rattle.world_model.specs.Run.{Run, run}
 use Rattle.l2tp_cli.specs.declared.words.Asked.{Asked}
 use Rattle.l2tp_cli.specs.declared.words.Asked.TheVariants as asked
@@ -30,6 +30,7 @@ IsReported exits.Usage = ⊥
 IsReported (exits.BadLine line) = Unit {0}
 IsReported (exits.Unfit line why) = Unit {0}
 IsReported (exits.HalfSpace line number count) = Unit {0}
+IsReported (exits.Stale line sent own) = Unit {0}
 IsReported (exits.StoreFull records) = Unit {0}
 IsReported exits.ReadFault = ⊥
 IsReported exits.WriteFault = ⊥
@@ -39,6 +40,7 @@ IsReported exits.NoMemory = ⊥
 reported_refusal : (line : ℕ) (r : Refusal) → IsReported (refused line r)
 reported_refusal line (Unfit why) = tt
 reported_refusal line (HalfSpace number count) = tt
+reported_refusal line (Stale sent own) = tt
 reported_refusal line (StoreFull records) = tt
 
 reported_fault : (f : Option (ℕ × Refusal)) → IsReported (exit_of f)
@@ -79,6 +81,7 @@ whole_ends exits.Usage p r h = absurd r
 whole_ends (exits.BadLine line) p r h = h
 whole_ends (exits.Unfit line why) p r h = h
 whole_ends (exits.HalfSpace line number count) p r h = h
+whole_ends (exits.Stale line sent own) p r h = h
 whole_ends (exits.StoreFull records) p r h = h
 whole_ends exits.ReadFault p r h = absurd r
 whole_ends exits.WriteFault p r h = absurd r

@@ -6,7 +6,7 @@ use Rattle.schedule_text.specs.declared.error.ScheduleError.{ScheduleError}
 use Rattle.schedule_text.specs.declared.error.ScheduleError.TheVariants.{BadLine, NoMemory}
 use Rattle.schedule_text.specs.Reading.{lines_of}
 use Rattle.world_model.specs.declared.refusal.Refusal.{Refusal}
-use Rattle.world_model.specs.declared.refusal.Refusal.TheVariants.{Unfit, HalfSpace, StoreFull}
+use Rattle.world_model.specs.declared.refusal.Refusal.TheVariants.{Unfit, HalfSpace, Stale, StoreFull}
 use Rattle.world_model.specs.Run.{Run, run, report_of}
 use Rattle.l2tp_cli.specs.declared.exit.Exit.{Exit}
 use Rattle.l2tp_cli.specs.declared.exit.Exit.TheVariants as exits
@@ -23,6 +23,7 @@ due e t = record { exit = e; text = t }
 abbrev pub refused : ℕ → Refusal → Exit
 refused line (Unfit why) = exits.Unfit line why
 refused line (HalfSpace number count) = exits.HalfSpace line number count
+refused line (Stale sent own) = exits.Stale line sent own
 refused line (StoreFull records) = exits.StoreFull records
 
 abbrev pub exit_of : Option (ℕ × Refusal) → Exit

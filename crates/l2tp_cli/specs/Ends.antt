@@ -87,6 +87,7 @@ Ends a exits.Usage p = IsWhole a exits.Usage p × (a ≡ asked.Nothing)
 Ends a (exits.BadLine line) p = IsWhole a (exits.BadLine line) p
 Ends a (exits.Unfit line why) p = IsWhole a (exits.Unfit line why) p
 Ends a (exits.HalfSpace line number count) p = IsWhole a (exits.HalfSpace line number count) p
+Ends a (exits.Stale line sent own) p = IsWhole a (exits.Stale line sent own) p
 Ends a (exits.StoreFull records) p = IsWhole a (exits.StoreFull records) p
 Ends a exits.ReadFault p = FailedReading a p
 Ends a exits.WriteFault p = FailedWriting a p

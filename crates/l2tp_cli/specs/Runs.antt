@@ -1,24 +1,29 @@
 -- What holds of the run of each list of lines, those of each text among them: the run that `due_of` speaks of.
-use Rattle.std.specs.Prelude.{◌≡◌, ℕ, ◌^◌, ◌<◌, List, length, None, Some, Ok}
+use Rattle.std.specs.Prelude.{◌≡◌, ℕ, ◌^◌, ◌<◌, true, List, length, None, Some, Ok}
 use Rattle.std.specs.List.{AllByRecursion}
 use Rattle.port_traits.specs.Limits.{limit_passed}
 use Rattle.schedule_text.specs.declared.line.Line.{Line}
-use Rattle.schedule_text.specs.Grammar.{AreLines}
+use Rattle.schedule_text.specs.Grammar.{AreLines, FitsLine}
 use Rattle.schedule_text.specs.Reading.{lines_of}
 use Rattle.id_table.specs.Ids.{at}
-use Rattle.world_model.specs.World.{Node}
+use Rattle.end_model.specs.Starting.{starts}
+use Rattle.world_model.specs.World.{Node, Deed, Lined, line}
 use Rattle.world_model.specs.Run.{run}
 use Rattle.step_laws.specs.Calm.{AreCalm}
+use Rattle.book_laws.specs.Starts.{IsBroughtBack}
 use Rattle.node_laws.specs.Nodes.{HoldsNode, LeavesNoneOut, AreWithinCeilings}
 use Rattle.frame_laws.specs.Past.{past_of}
 use Rattle.frame_laws.specs.Frames.{AreSent, IsCarried, IsGiven}
 use Rattle.frame_laws.specs.Reports.{ups_in, told_of}
 use Rattle.frame_laws.specs.Births.{AreApart}
+use Rattle.frame_laws.specs.Unrecovered.{IsMain}
 use Rattle.connection_laws.specs.Channels.{LettersAreCarried, AcksAreTrue, NumbersAreRead}
 use Rattle.request_laws.specs.Requests.{AreAskedOnce, AreMadeOnce, AreBornOnce}
 use Rattle.cause_laws.specs.Causes.{AllAreFew, AllHaveRoom, NoneIsLeft, TellTrulyThroughout}
 use Rattle.cause_laws.specs.Answers.{AnswerThroughout}
 use Rattle.session_laws.specs.Sessions.{SessionsAgree}
+use Rattle.recovery_laws.specs.Gone.{GoOnce}
+use Rattle.recovery_laws.specs.Marks.{MarksStay}
 
 -- the frames of a run
 pub record FramesOf (lines : List Line) : Type 0 where
@@ -46,6 +51,8 @@ pub record ChannelsOf (lines : List Line) : Type 0 where
   -- a node asks for each of its calls once, and for each request at most one call is made
   pub asked : AreAskedOnce (run lines).done
   pub made : AreMadeOnce (run lines).done
+  -- no tunnel is recovered where nothing crashed
+  pub main : AllByRecursion (λ (d : Deed). IsMain d.move) (run lines).done
 
 -- what holds of each node by itself
 pub record NodesOf (lines : List Line) : Type 0 where
@@ -63,13 +70,26 @@ pub record NodesOf (lines : List Line) : Type 0 where
   pub records : (n : ℕ) (node : Node) → at (run lines).world.nodes n ≡ Some node → LeavesNoneOut node
   -- it drew no id above the ceilings that it committed, and draws above them once it crashed
   pub ids : (n : ℕ) (node : Node) → at (run lines).world.nodes n ≡ Some node → AreWithinCeilings node
+  -- where it falls and starts again, each of its established tunnels whose peer can recover is established again, as far as ids are left, and so
+  -- are its established calls; nothing else is there
+  pub restarts : (n : ℕ) (node : Node) → at (run lines).world.nodes n ≡ Some node → node.up ≡ true → (moment : ℕ) (block : List ℕ)
+      → IsBroughtBack node.end (starts node.end.role node.end.config node.checkpoint.book moment block)
+
+-- what holds of the line that comes next, whichever it is, as long as it fits
+pub record NextLineOf (lines : List Line) : Type 0 where
+  -- the sessions that it tells as gone are of one node, none is told twice, and each had a place before, or was kept
+  pub gone : (number : ℕ) (l : Line) (x : Lined) → FitsLine l → line (run lines).world number l ≡ Ok x → GoOnce (run lines).world x
+  -- and it makes no mark of a tunnel less, which is the greatest draw number of its peer's that the tunnel heeded
+  pub marks : (number : ℕ) (l : Line) (x : Lined) → FitsLine l → line (run lines).world number l ≡ Ok x → MarksStay (run lines).world x.world
 
 -- What a run comes to, crashes among its lines. The answers: each call request that is taken is answered once, by the tables, each ring makes a
--- call or tells a cause, and each cause that is told stands; a step that a stop cut off is left out. The nodes: what holds of each by itself.
+-- call or tells a cause, and each cause that is told stands; a step that a stop cut off is left out. The nodes: what holds of each by itself. The
+-- next line: whom it tells as gone, and that no recovery is heeded that is older than one that was.
 pub record AnswersOf (lines : List Line) : Type 0 where
   pub answers : AnswerThroughout lines
   pub causes : TellTrulyThroughout lines
   pub nodes : NodesOf lines
+  pub next : NextLineOf lines
 
 -- What a run without crashes comes to. The frames: each that is handed up was sent at an earlier line, in a call of the same birth, by its other end. The
 -- sessions: partners that are established, with nothing outstanding, hold the same ones, with the same births. The channels: what

@@ -31,6 +31,14 @@ fn refused(line: u64, refusal: Refusal) -> Exit
             number,
             count,
         },
+        Refusal::Stale {
+            packet_epoch,
+            own_epoch,
+        } => Exit::Stale {
+            line,
+            packet_epoch,
+            own_epoch,
+        },
         Refusal::StoreFull { records } => Exit::StoreFull { records },
     }
 }

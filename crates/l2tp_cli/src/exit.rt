@@ -12,20 +12,40 @@ pub enum Exit {
     /// The words are no command.
     Usage,
     /// The first line of the text that is outside the grammar, counted from 1.
-    BadLine { line: u64 },
+    BadLine {
+        line: u64,
+    },
     /// The first line that doesn't fit, counted from 1, and why.
-    Unfit { line: u64, why: Why },
+    Unfit {
+        line: u64,
+        why: Why,
+    },
     /// The first line that delivers a packet which has outlived half of the numbers of its channel, counted from 1: an Ns or
     /// Nr of the packet, without an end, and how many messages the tunnel that it is for has taken, or has acknowledged.
-    HalfSpace { line: u64, number: u64, count: u64 },
+    HalfSpace {
+        line: u64,
+        number: u64,
+        count: u64,
+    },
+    /// The first line that delivers a packet which was sent before the last reset of the tunnel that it is for, counted from 1: the epoch
+    /// in which it was sent, and the one that the tunnel is in.
+    Stale {
+        line: u64,
+        packet_epoch: u64,
+        own_epoch: u64,
+    },
     /// A node's checkpoint has so many records, and no room for those of the step of a line.
-    StoreFull { records: u32 },
+    StoreFull {
+        records: u32,
+    },
     /// The source failed.
     ReadFault,
     /// The sink failed.
     WriteFault,
     /// The text passes a limit; so many lines are begun there.
-    TooLong { lines: u64 },
+    TooLong {
+        lines: u64,
+    },
     /// Memory was wanting, or a node's disk had another number of records behind a stop than was due.
     NoMemory,
 }
@@ -40,7 +60,7 @@ impl Exit {
             Exit::Usage => 1,
             Exit::BadLine { .. } => 2,
             Exit::Unfit { .. } => 3,
-            Exit::HalfSpace { .. } => 4,
+            Exit::HalfSpace { .. } | Exit::Stale { .. } => 4,
             Exit::ReadFault => 5,
             Exit::WriteFault => 6,
             Exit::TooLong { .. } => 7,

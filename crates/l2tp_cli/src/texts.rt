@@ -36,7 +36,7 @@ A schedule is a list of lines, with one space between words:
   tick N MS             the clock of node N goes on by MS milliseconds, and what is due is done
   crash N               node N crashes: all but what it committed is lost
   stop N C J KEEP       node N is to stop inside its C-th commit from now on, at call J of its disk
-  start N               node N, which is down, starts again over what it committed
+  start N               node N, which is down, starts again over what it committed, and attempts to recover its tunnels
 N and M are 1 to 255, K, S and T 1 to 65535, P and H 1 to 4294967295, MS 0 to 86400000, without leading zeros. HEX is a frame
 from its protocol field on, 2 to 1494 bytes as hex digits in lower case, and in a frame line an Ethernet frame from its
 destination address on, 1 to 2048 bytes. C is 1 to 255 and J 1 to 4; KEEP is kept, with a J of 3 or 4, where the record that is
@@ -61,6 +61,8 @@ A line that doesn't fit ends the run, which says why:
 
 A packet may be delivered at any time, and as often as wanted. One that has outlived half of the numbers of its channel
 ends the run with status 4: its number is more than 32767 below what the addressee took, or what was acknowledged to it.
+So does a control message that was sent in its tunnel in an earlier epoch than the addressee is in: a tunnel is in epoch 0,
+and each answer to an attempt at its recovery makes the next one.
 
 A report has lines for what is done in line L of the schedule, and ends with what each node holds:
   L send P N M HEX                    packet P goes from node N to node M
@@ -73,8 +75,9 @@ A report has lines for what is done in line L of the schedule, and ends with wha
   L cause N WHY                       node N refuses what was asked for, or ends a call, or closes a tunnel
   L stopped N                         node N stopped inside a commit, and is down
   end N down                          node N is down
-  end N tunnel T M R STATE 0 current complete
-                                      node N has tunnel T to node M, which calls it R
+  end N tunnel T M R STATE E MODE complete
+                                      node N has tunnel T to node M, which calls it R, in epoch E; it is current, restored
+                                      (node N was down, and it isn't recovered yet) or frozen (node M was down)
   end N call T S R STATE B            in tunnel T it has call S, which the other end calls R, the B-th of all calls
   agree N T M U C                     both ends of a tunnel took all that they were sent, and hold C established calls
 

@@ -85,9 +85,9 @@ fn command<S: Source, K: Sink>(
 /// `--help` and `--version` write their texts; other words write how the program is used.
 ///
 /// What the clause `ends` says is of this call. The others speak of the run of every list of lines of the grammar, whether
-/// this text spells it or another, or none has room for it: `headline` of its answers and nodes over all of them, crashes among
-/// them, and of its frames, births, sessions and channels over those without crashes and with fewer than 2^47 lines, as those of
-/// each text within the limits are; `origins` over all without crashes.
+/// this text spells it or another, or none has room for it: `headline` of its answers, of its nodes and of its next line over all
+/// of them, crashes among them, and of its frames, births, sessions and channels over those without crashes and with fewer than
+/// 2^47 lines, as those of each text within the limits are; `origins` over all without crashes.
 pub fn replay_top<S: Source, K: Sink>(
     alloc: Global,
     words: &[String],
@@ -112,6 +112,7 @@ pub fn replay_top<S: Source, K: Sink>(
     frame_laws::frames_were_sent();
     frame_laws::sent_frames_are_packets();
     frame_laws::births_are_apart();
+    frame_laws::moves_are_main();
     connection_laws::letters_are_carried();
     connection_laws::acks_are_true();
     connection_laws::numbers_are_read();
@@ -126,6 +127,9 @@ pub fn replay_top<S: Source, K: Sink>(
     node_laws::books_are_of_ends();
     node_laws::records_are_in_place();
     node_laws::ids_are_above_ceilings();
+    node_laws::tunnels_outlive_crashes();
+    recovery_laws::sessions_go_once();
+    recovery_laws::marks_never_fall();
     session_laws::ends_that_agree_hold_the_same();
     command(alloc, words, source, sink)
 }

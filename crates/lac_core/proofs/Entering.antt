@@ -28,7 +28,7 @@ refusal_found (Drop why ∷ os) = refusal_found os
 
 module _ (mac : List ℕ) (asked : Discovered) (r : Refusals) (are : AreRefusals mac asked r) where
   frame_is : (c : Cause) → frame_for r (ring_cause c) ≡ pads_to mac asked 0 (Some (ring_cause c))
-  frame_is c = search (rules, are.tunnels, are.calls, are.queue, are.ids)
+  frame_is c = search (rules, are.tunnels, are.calls, are.queue, are.recovering, are.ids)
 
   refused : (os : List Out) → frame_for r (refusal_in os) ≡ pads_to mac asked 0 (Some (refusal_in os))
   unfolding refusal_in

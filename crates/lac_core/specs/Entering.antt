@@ -32,6 +32,7 @@ abbrev pub frame_for : Refusals → Cause → List ℕ
 frame_for r cause.Tunnels = r.tunnels
 frame_for r cause.Calls = r.calls
 frame_for r cause.Queue = r.queue
+frame_for r cause.Recovering = r.recovering
 frame_for r other = r.ids
 
 -- these refuse what is asked for
@@ -39,6 +40,7 @@ pub record AreRefusals (mac : List ℕ) (asked : Discovered) (r : Refusals) : Ty
   pub tunnels : r.tunnels ≡ pads_to mac asked 0 (Some cause.Tunnels)
   pub calls : r.calls ≡ pads_to mac asked 0 (Some cause.Calls)
   pub queue : r.queue ≡ pads_to mac asked 0 (Some cause.Queue)
+  pub recovering : r.recovering ≡ pads_to mac asked 0 (Some cause.Recovering)
   pub ids : r.ids ≡ pads_to mac asked 0 (Some cause.Ids)
 
 -- the PADS where the host got a session, and else the refusal

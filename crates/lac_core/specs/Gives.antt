@@ -31,8 +31,8 @@ abbrev pub access_from : List ℕ → Kept → Access
 access_from key k = record { key = key; held = []; kept = kept_hosts k.calls [] }
 
 -- its end starts, which answers no host
-abbrev pub starts_with : Concentrator → List ℕ → Kept → Served
-starts_with l key k = of_step (access_from key k) None (starts l.end.role l.end.config k)
+abbrev pub starts_with : Concentrator → List ℕ → Kept → ℕ → List ℕ → Served
+starts_with l key k moment block = of_step (access_from key k) None (starts l.end.role l.end.config k moment block)
 
 -- the start is this: the next LAC with what it gave, or the LAC as before, where it wasn't made
 abbrev pub GivesStart : {F : Type 0} → Result Given F → Served → Concentrator → Concentrator → Type 0

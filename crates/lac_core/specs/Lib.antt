@@ -1,2 +1,3 @@
+pub mod Cores
 pub mod Gives
 pub mod Entering

@@ -18,6 +18,7 @@ pub struct Refusals {
     tunnels: Bytes,
     calls: Bytes,
     queue: Bytes,
+    recovering: Bytes,
     ids: Bytes,
 }
 
@@ -34,6 +35,7 @@ pub fn write_refusals(
         tunnels: write_pads(alloc, mac, asked, 0, Some(Cause::Tunnels))?,
         calls: write_pads(alloc, mac, asked, 0, Some(Cause::Calls))?,
         queue: write_pads(alloc, mac, asked, 0, Some(Cause::Queue))?,
+        recovering: write_pads(alloc, mac, asked, 0, Some(Cause::Recovering))?,
         ids: write_pads(alloc, mac, asked, 0, Some(Cause::Ids))?,
     })
 }
@@ -50,7 +52,7 @@ fn ring_cause(cause: Cause) -> Cause
     ensures { result ≡ ring_cause cause }
 {
     match cause {
-        Cause::Tunnels | Cause::Calls | Cause::Queue => cause,
+        Cause::Tunnels | Cause::Calls | Cause::Queue | Cause::Recovering => cause,
         _ => Cause::Ids,
     }
 }
@@ -75,6 +77,7 @@ impl Refusals {
             Cause::Tunnels => self.tunnels,
             Cause::Calls => self.calls,
             Cause::Queue => self.queue,
+            Cause::Recovering => self.recovering,
             _ => self.ids,
         }
     }

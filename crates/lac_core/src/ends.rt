@@ -22,8 +22,17 @@ fn too_many_tunnels() -> Out
     }
 }
 
+/// Tunnels to the LNS are being recovered, and a ring waits for none of them.
+fn recovering() -> Out
+    ensures { result ≡ outs.Cause causes.Recovering }
+{
+    Out::Cause {
+        cause: Cause::Recovering,
+    }
+}
+
 /// A port rings, or a host was admitted: over the least tunnel to the LNS that is open, else over the least that is to open,
-/// else over a new one.
+/// else over a new one, where no tunnel to the LNS is being recovered.
 #[tactic(auto, unfolding(end_model::specs::End::rings_at, end_model::specs::End::rings_in))]
 fn ring<L: Ledger>(
     end: &mut End,
@@ -43,6 +52,9 @@ fn ring<L: Ledger>(
     }
     if let Some(id) = end.least_in(TunnelState::WaitCtlReply, lns)? {
         return end.run_main(ledger, moment, block, event, id);
+    }
+    if end.are_recovering(lns)? {
+        return end.only(ledger, recovering());
     }
     end.run_one_more(ledger, moment, block, event, lns, too_many_tunnels())
 }

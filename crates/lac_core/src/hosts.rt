@@ -1,10 +1,10 @@
 //! The frames that come to a LAC.
 
 ghost use Rattle.std.specs.Prelude.{ℕ, ◌≡◌, List, [], Some, None};
-ghost use Rattle.pppoe_session.specs.Subscribers.{is_from, repeat_in, subscriber_of};
+ghost use Rattle.pppoe_session.specs.Subscribers.{repeat_in};
 ghost use Rattle.pppoe_discovery.specs.Told.{IsAdmission, MayBeTold, IsWithin, pads_to};
 ghost use Rattle.end_model.specs.declared.event.Event.TheVariants as events;
-ghost use Rattle.end_model.specs.Access.{about_call, admits, coming, does, led_to, of_step, wants_call, with_host};
+ghost use Rattle.end_model.specs.Access.{about_call, admits, coming, does, is_host, led_to, of_step, wants_call, with_host};
 ghost use Rattle.end_model.specs.End.{step};
 ghost use Rattle.end_names.specs.Names.{mac_of};
 ghost use Rattle.end_core.specs.Sessions.{next_session};
@@ -22,12 +22,11 @@ use wire_base::{Bytes, Why};
 const LONGEST: usize = 2048;
 
 impl Lac {
-    /// Whether a session's host has this address.
-    #[tactic(auto, unfolding(pppoe_session::specs::Subscribers::holder_of))]
+    /// Whether a session's host has this address, also that of a call that was kept over a start.
     fn is_host(&self, session: u16, src: &[u8; 6]) -> bool
-        ensures { result ≡ is_from src.now (subscriber_of self.now.access.held session) }
+        ensures { result ≡ is_host self.now.access src.now session }
     {
-        match self.hosts.holder(session) {
+        match self.holder(session) {
             Some(mac) => mac == *src,
             None => false,
         }

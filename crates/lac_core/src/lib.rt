@@ -23,7 +23,8 @@ mod hosts;
 mod kept;
 
 use crate::kept::keep_hosts;
-use end_core::{End, EndRows, Given};
+use end_core::EndRows;
+pub use end_core::{End, Given, Moves, Outputs, TunnelCore};
 use end_model::{Config, Event, Out, Role, mac_of};
 use pppoe_discovery::padt_frame;
 use pppoe_session::Table;
@@ -32,7 +33,6 @@ use session_looks::Look;
 use std::alloc::Global;
 use std::marker::Model;
 use step_ledger::{BookedLedger, Ledger, StepFault};
-use tunnel_core::{Moves, Outputs};
 use wire_base::{Bytes, Cause, NoMemory, Why};
 
 /// What a step of a LAC gave.
@@ -158,22 +158,25 @@ impl Lac {
         self.kept = Table::new(self.alloc);
     }
 
-    /// The LAC starts again over the book of its ledger, with a new key for its cookies: each tunnel that was kept goes with its calls, by
-    /// local ids, and the hosts of those calls are known, so that each is told by a PADT. That the tunnels went is committed first. Where
-    /// it isn't, or memory is wanting, the LAC is as before.
+    /// The LAC starts again over the book of its ledger, at a moment in milliseconds, with a block of random bytes, and with a new key
+    /// for its cookies: each tunnel that was kept comes back with its calls and asks its peer for its recovery (RFC 4951 section 4.3), or
+    /// goes with its calls where the peer can't recover it, by local ids. The hosts of those calls are known, so that each can be told by
+    /// a PADT. What the start leaves is committed first. Where it isn't, or memory is wanting, the LAC is as before.
     pub fn start<L: BookedLedger>(
         &mut self,
         ledger: &mut L,
+        moment: u64,
+        block: [u8; 16],
         key: [u8; 16],
     ) -> Result<Given, StepFault<L::Stop>>
         requires ledger { L.Ledger.can_commit ledger.old }
         requires lends { L.can_lend ledger.old }
-        ensures given { GivesStart result (starts_with self.old key (L.kept ledger.old)) self.old self.new }
-        ensures committed { CommitsServed L.Ledger.commits_to result (starts_with self.old key (L.kept ledger.old)) self.old ledger.old ledger.new }
+        ensures given { GivesStart result (starts_with self.old key (L.kept ledger.old) moment block) self.old self.new }
+        ensures committed { CommitsServed L.Ledger.commits_to result (starts_with self.old key (L.kept ledger.old) moment block) self.old ledger.old ledger.new }
         ensures role { self.old.end.role ≡ roles.Lac }
     {
         let kept = keep_hosts(self.alloc, ledger.book().calls().as_slice())?;
-        let given = self.end.start(ledger)?;
+        let given = self.end.start(ledger, moment, block)?;
         self.key = key;
         self.hosts = Table::new(self.alloc);
         self.kept = kept;

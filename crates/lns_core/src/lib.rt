@@ -84,16 +84,23 @@ impl Lns {
         self.end.fall(book);
     }
 
-    /// The LNS starts again over the book of its ledger: each tunnel that was kept goes with its calls, by local ids. That they went is
-    /// committed first. Where it isn't, or memory is wanting, the LNS is as before.
-    pub fn start<L: BookedLedger>(&mut self, ledger: &mut L) -> Result<Given, StepFault<L::Stop>>
+    /// The LNS starts again over the book of its ledger, at a moment in milliseconds, with a block of random bytes: each tunnel that was
+    /// kept comes back with its calls and asks its peer for its recovery (RFC 4951 section 4.3), or goes with its calls where the peer
+    /// can't recover it, by local ids. What the start leaves is committed first. Where it isn't, or memory is wanting, the LNS is as
+    /// before.
+    pub fn start<L: BookedLedger>(
+        &mut self,
+        ledger: &mut L,
+        moment: u64,
+        block: [u8; 16],
+    ) -> Result<Given, StepFault<L::Stop>>
         requires ledger { L.Ledger.can_commit ledger.old }
         requires lends { L.can_lend ledger.old }
-        ensures given { GivesStep result (starts self.old.role self.old.config (L.kept ledger.old)) self.old self.new }
-        ensures committed { CommitsStep L.Ledger.commits_to result (starts self.old.role self.old.config (L.kept ledger.old)) self.old ledger.old ledger.new }
+        ensures given { GivesStep result (starts self.old.role self.old.config (L.kept ledger.old) moment block) self.old self.new }
+        ensures committed { CommitsStep L.Ledger.commits_to result (starts self.old.role self.old.config (L.kept ledger.old) moment block) self.old ledger.old ledger.new }
         ensures role { self.old.role ≡ roles.Lns }
     {
-        self.end.start(ledger)
+        self.end.start(ledger, moment, block)
     }
 
     /// A step on an event of which nothing is hidden.

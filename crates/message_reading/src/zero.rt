@@ -1,12 +1,18 @@
 //! What a control message is for that names no tunnel.
 
-ghost use Rattle.std.specs.Prelude.{◌≡◌, Ok, IfOk};
-ghost use Rattle.end_model.specs.Reading.{at_zero, zero_pairs, stopped};
+ghost use Rattle.std.specs.Prelude.{◌≡◌, List, Ok, IfOk};
+ghost use Rattle.avp_codec.specs.declared.avp.Avp.{Avp};
+ghost use Rattle.control_message.specs.declared.message.Read.TheVariants.{Known};
+ghost use Rattle.control_message.specs.Reading.{kind_of_pairs};
+ghost use Rattle.end_model.specs.Reading.{at_zero, zero_faulty, zero_pairs, zero_read, stopped};
 
 use avp_codec::{AvpError, LentAvps};
-use control_message::{Kind, Kinds, assigned_tunnel, kind_of_pairs};
+use control_message::{
+    Kind, Kinds, Message, MessageError, Read, assigned_tunnel, kind_of_pairs, read_message,
+};
 use end_model::Addressee;
 use l2tp_datagram::Body;
+use std::alloc::Global;
 use wire_base::{NoMemory, Why};
 
 /// A StopCCN is for the tunnel whose id it tells; one that tells none, or 0, is for none.
@@ -19,10 +25,29 @@ fn stopped(told: Option<u16>) -> Addressee
     }
 }
 
-/// What a message at tunnel 0 is for, by its kind and by the tunnel id that its pairs tell. Whether they have a fault changes nothing.
-#[tactic(auto, using(crate::proofs::Tunnels::zero_is), unfolding(end_model::specs::Reading::zero_pairs))]
-fn zero_pairs(avps: &LentAvps<'_>) -> Addressee
-    ensures { result ≡ zero_pairs (Ok avps.now) }
+/// What a message is for that has no fault: an SCCRQ opens a tunnel, or asks for the recovery of one.
+#[tactic(auto, unfolding(end_model::specs::Reading::zero_read))]
+fn zero_known(message: &Message) -> Addressee
+    ensures { (avps : List Avp) → result ≡ zero_read avps (Ok (Known message.now)) }
+{
+    match message {
+        Message::Sccrq(opening) if opening.recovery.is_some() => Addressee::Recovers {
+            remote: opening.tunnel,
+        },
+        Message::Sccrq(opening) => Addressee::Opens {
+            remote: opening.tunnel,
+        },
+        Message::Sccrp(opening) => Addressee::Answers {
+            remote: opening.tunnel,
+        },
+        Message::StopCcn { tunnel, .. } => stopped(Some(*tunnel)),
+        _ => Addressee::Nobody { why: Why::Tunnel },
+    }
+}
+
+/// What one is for that has a fault, by its kind and by the tunnel id that its pairs tell.
+fn zero_faulty(avps: &LentAvps<'_>) -> Addressee
+    ensures { result ≡ zero_faulty (kind_of_pairs avps.now) avps.now }
 {
     match kind_of_pairs(avps, Kinds::Base) {
         Some(Kind::Sccrq) => match assigned_tunnel(avps) {
@@ -38,13 +63,26 @@ fn zero_pairs(avps: &LentAvps<'_>) -> Addressee
     }
 }
 
+/// What pairs at tunnel 0 are for.
+#[tactic(auto, unfolding(end_model::specs::Reading::zero_pairs, end_model::specs::Reading::zero_read))]
+fn zero_pairs(alloc: Global, avps: &LentAvps<'_>) -> Result<Addressee, NoMemory>
+    ensures { IfOk result (λ to. to ≡ zero_pairs (Ok avps.now)) }
+{
+    match read_message(alloc, avps, None, Kinds::Base) {
+        Ok(Read::Known(message)) => Ok(zero_known(&message)),
+        Ok(Read::Ignored { .. }) => Ok(Addressee::Nobody { why: Why::Tunnel }),
+        Err(MessageError::NoMemory) => Err(NoMemory),
+        Err(_) => Ok(zero_faulty(avps)),
+    }
+}
+
 /// What a control message at tunnel 0 is for (RFC 2661 section 3.1: its sender doesn't know the other end's id yet).
 #[tactic(auto, unfolding(end_model::specs::Reading::at_zero, end_model::specs::Reading::zero_pairs))]
-pub fn at_zero(body: &Body<'_>) -> Result<Addressee, NoMemory>
+pub fn at_zero(alloc: Global, body: &Body<'_>) -> Result<Addressee, NoMemory>
     ensures { IfOk result (λ to. to ≡ at_zero body.now) }
 {
     match body.pairs() {
-        Ok(avps) => Ok(zero_pairs(&avps)),
+        Ok(avps) => zero_pairs(alloc, &avps),
         Err(AvpError::NoMemory) => Err(NoMemory),
         Err(_) => Ok(Addressee::Nobody { why: Why::Avp }),
     }

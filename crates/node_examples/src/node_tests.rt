@@ -47,6 +47,40 @@ const MESSAGES: [&[u8]; 7] = [
 const LINES: &[u8] = b"tunnel 1 up peer 127.0.0.1 remote 7\n\
 call 1 up tunnel 1 remote 40\ncall 1 gone tunnel 1 by peer\ntunnel 1 closed by peer\n";
 
+/// What a LAC that recovers its channels sends, at 127.0.0.1: SCCRQ for its tunnel 7, and SCCCN.
+const OPENING: [&[u8]; 2] = [
+    b"\xc8\x02\0\x4c\0\0\0\0\0\0\0\0\x80\x08\0\0\0\0\0\x01\x80\x08\0\0\0\x02\x01\0\
+\x80\x0a\0\0\0\x03\0\0\0\x01\x80\x0a\0\0\0\x07lac1\x80\x08\0\0\0\x09\0\x07\x80\x08\0\0\0\x0a\0\x08\
+\0\x0c\0\0\0\x4c\0\x03\0\0\x75\x30",
+    b"\xc8\x02\0\x14\0\x01\0\0\0\x01\0\x01\x80\x08\0\0\0\0\0\x03",
+];
+
+/// The SCCRQ of the LNS that was down, by its recovery tunnel 65: it asks for the tunnel that is 1 here and 7 at the LAC, and its draw
+/// number is 1.
+const ATTEMPT: &[u8; 102] = b"\xc8\x02\0\x66\0\0\0\0\0\0\0\0\
+\x80\x08\0\0\0\0\0\x01\x80\x08\0\0\0\x02\x01\0\x80\x0a\0\0\0\x03\0\0\0\x03\x80\x0a\0\0\0\x07lns2\
+\x80\x08\0\0\0\x09\0\x41\x80\x08\0\0\0\x0a\0\x08\0\x0c\0\0\0\x4c\0\x03\0\0\x75\x30\
+\x80\x10\0\0\0\x4d\0\0\0\0\0\x01\0\0\0\x07\0\x0a\xff\xff\0\x01\0\0\0\x01";
+
+/// The SCCRP of the LAC, by its recovery tunnel 9: it expects the letter 1 next and would send the letter 2, and its draw number is 5.
+const ANSWER: &[u8] = b"\xc8\x02\0\x62\0\x41\0\0\0\0\0\x01\
+\x80\x08\0\0\0\0\0\x02\x80\x08\0\0\0\x02\x01\0\x80\x0a\0\0\0\x03\0\0\0\x01\x80\x0a\0\0\0\x07lac1\
+\x80\x08\0\0\0\x09\0\x09\x80\x08\0\0\0\x0a\0\x08\0\x0c\0\0\0\x4c\0\x03\0\0\x75\x30\
+\x80\x0c\0\0\0\x4e\0\0\0\x01\0\x02\0\x0a\xff\xff\0\x01\0\0\0\x05";
+
+/// The SCCCN to it.
+const CONFIRMATION: &[u8] = b"\xc8\x02\0\x14\0\x09\0\0\0\x01\0\x01\x80\x08\0\0\0\0\0\x03";
+
+/// What the LNS keeps then, worked out from the format: the ceiling of its tunnel ids and the tunnel; by the start the ceilings of its
+/// tunnel ids and of its draw numbers; and as its mark the LAC's draw number.
+const RECOVERED_STORE: &[u8; 193] = b"OL2TPCKP1\x02\x02\0\0\0\0\0\0\0\0\0\0\0\0\0\0\0\0\0\0\0\0C\
+O\x01\x01\0\0\0\x40\0\0\0\0\0\0\0\0\0\0\0\0\0\0\0\0\0\0\0\0\0\0\0\0\0\
+O\x02\0\x01\0\x07\x7f\0\0\x01\0\x08\0\x03\0\0\0\0\0\0\0\0\0\0\0\0\0\0\0\0\0\0\
+O\x01\x01\0\0\0\x80\0\0\0\0\0\0\0\0\0\0\0\0\0\0\0\0\0\0\0\0\0\0\0\0\0\
+O\x01\x03\0\0\0\x40\0\0\0\0\0\0\0\0\0\0\0\0\0\0\0\0\0\0\0\0\0\0\0\0\0\
+O\x06\0\x01\0\0\0\x05\0\0\0\0\0\0\0\0\0\0\0\0\0\0\0\0\0\0\0\0\0\0\0\0\
+C";
+
 /// What is around a node, with nothing waiting.
 #[derive(Drop)]
 struct Surroundings {
@@ -324,10 +358,10 @@ fn each_fault_is_told_as_its_own(rt: HostRuntime) -> Result<(), Fail> {
     Ok(())
 }
 
-/// The messages as they wait at the LNS.
-fn messages(alloc: Global) -> Option<Datagrams> {
+/// Messages of the LAC as they wait at the LNS.
+fn messages(alloc: Global, all: &[&[u8]]) -> Option<Datagrams> {
     let mut waiting = Datagrams::new(alloc);
-    for bytes in &MESSAGES {
+    for bytes in all {
         let bytes = Bytes::from_slice(alloc, bytes).ok()?;
         let peer = 0x7f00_0001;
         waiting.push(Datagram { peer, bytes }).ok()?;
@@ -338,7 +372,7 @@ fn messages(alloc: Global) -> Option<Datagrams> {
 /// The LNS that has the messages and a log of which this call fails: how it ends, and what is around it then.
 fn served(alloc: Global, log_fails: u64) -> Option<(NodeExit, Box<Surroundings>)> {
     let mut around = around(alloc, NONE)?;
-    around.link = MemoryLink::new(alloc, messages(alloc)?, fails_at(alloc, 0));
+    around.link = MemoryLink::new(alloc, messages(alloc, &MESSAGES)?, fails_at(alloc, 0));
     around.log = MemorySink::new(alloc, fails_at(alloc, log_fails));
     let exit = run_line(alloc, LNS, "7", &mut around);
     Some((exit, around))
@@ -363,5 +397,98 @@ fn an_operator_reads_of_tunnels_and_calls(rt: HostRuntime) -> Result<(), Fail> {
     let alloc = rt.alloc();
     assert!(rt; logs(alloc, 0, LINES));
     assert!(rt; logs(alloc, 1, &LINES[36..]));
+    Ok(())
+}
+
+/// The LNS over this disk, for which these messages wait, and which makes so many turns: how it ends, and what is around it then.
+fn served_over(
+    alloc: Global,
+    disk: MemoryDisk,
+    all: &[&[u8]],
+    turns: &str,
+) -> Option<(NodeExit, Box<Surroundings>)> {
+    let mut around = Box::new(alloc, around_disk(alloc, disk, NONE)).ok()?;
+    around.link = MemoryLink::new(alloc, messages(alloc, all)?, fails_at(alloc, 0));
+    let exit = run_line(alloc, LNS, turns, &mut around);
+    Some((exit, around))
+}
+
+/// The LNS that had the first messages is down, and starts again over its store with the others: how it ends, and what is around it then.
+fn started_again(
+    alloc: Global,
+    before: &[&[u8]],
+    behind: &[&[u8]],
+) -> Option<(NodeExit, Box<Surroundings>)> {
+    let disk = disk_that_fails(alloc, 0)?;
+    let (exit, around) = served_over(alloc, disk, before, "2")?;
+    if exit != NodeExit::Ok {
+        return None;
+    }
+    let mut disk = Box::into_inner(around).disk;
+    disk.after_crash(false);
+    served_over(alloc, disk, behind, "1")
+}
+
+/// It sends these datagrams to the LAC, and nothing else.
+fn gives(around: &Surroundings, wanted: &[&[u8]]) -> bool {
+    let given = around.link.given();
+    if given.len() != wanted.len() {
+        return false;
+    }
+    for (is, bytes) in given.iter().zip(wanted) {
+        if is.peer != 0x7f00_0001 || is.bytes.as_slice() != *bytes {
+            return false;
+        }
+    }
+    true
+}
+
+fn has_disk(around: &Surroundings, file: &[u8]) -> bool {
+    around.disk.bytes() == file
+}
+
+fn logged(around: &Surroundings, lines: &[u8]) -> bool {
+    around.log.taken() == lines
+}
+
+fn wrote(around: &Surroundings, text: &[u8]) -> bool {
+    around.sink.taken() == text
+}
+
+#[test]
+fn a_node_that_starts_again_recovers_its_tunnel_where_its_peer_can(
+    rt: HostRuntime,
+) -> Result<(), Fail> {
+    let alloc = rt.alloc();
+    let Some((exit, around)) = started_again(alloc, &OPENING, &[ANSWER]) else {
+        assert!(rt; false, "it didn't run");
+        return Ok(());
+    };
+    assert!(rt; exit == NodeExit::Ok);
+    assert!(rt; gives(&around, &[ATTEMPT, CONFIRMATION]));
+    assert!(rt; has_disk(&around, RECOVERED_STORE));
+    assert!(rt;
+        logged(
+            &around,
+            b"tunnel 1 restored peer 127.0.0.1 remote 7\ntunnel 1 recovered\n"
+        )
+    );
+    assert!(rt; wrote(&around, b"turns 1\ntaken 1\nsent 2\n"));
+    Ok(())
+}
+
+#[test]
+fn a_node_that_starts_again_gives_its_tunnel_up_where_its_peer_can_not(
+    rt: HostRuntime,
+) -> Result<(), Fail> {
+    let alloc = rt.alloc();
+    let Some((exit, around)) = started_again(alloc, &MESSAGES[..2], &[]) else {
+        assert!(rt; false, "it didn't run");
+        return Ok(());
+    };
+    assert!(rt; exit == NodeExit::Ok);
+    assert!(rt; gives(&around, &[]));
+    assert!(rt; logged(&around, b"tunnel 1 lost\n"));
+    assert!(rt; wrote(&around, b"turns 1\ntaken 0\nsent 0\n"));
     Ok(())
 }

@@ -65,7 +65,7 @@ fn clock(alloc: Global) -> ManualClock {
 fn new_node(alloc: Global, lac: bool) -> Option<Box<Node>> {
     let mut disk = MemoryDisk::new(alloc, Bytes::new(alloc), Fails::new(alloc)).ok()?;
     let mut log = MemorySink::new(alloc, PortFails::new(alloc));
-    let opened = NodeEnd::open(alloc, &mut disk, &mut log, lac, config(lac), [9; 16]);
+    let opened = NodeEnd::open(alloc, &mut disk, &mut log, lac, config(lac), 5, [9; 16]);
     let Ok((end, _)) = opened else {
         return None;
     };

@@ -1,4 +1,3 @@
 mod Books
-mod Ends
 mod Nodes
 mod Runs

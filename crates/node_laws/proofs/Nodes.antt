@@ -1,6 +1,7 @@
 -- What a line leaves of each node.
 use Rattle.std.proofs.Common.{◌≡◌, ⊎_elim, Bool, true, false, ℕ, ◌+◌, ◌-◌, ◌^◌, zero, suc, List, [], ◌∷◌, length, take, refl, sym, ap, ◌∙◌, subst, Option, Some, None, Result, Ok, Err, arith}
 use Rattle.std.specs.Prelude.{is_some, min, nat_le, slice_get, if◌then◌else◌}
+use Rattle.std.specs.List.{AllByRecursion}
 use Rattle.std.proofs.lemmas.Bool.{true≢false}
 use Rattle.id_table.specs.Ids.{at, put}
 use Rattle.id_table.specs.Order.{at_new, at_other, same_or_not}
@@ -22,18 +23,20 @@ use Rattle.end_model.specs.declared.out.Out.TheVariants.{Send, Up, Gone, Drop, C
 use Rattle.end_model.specs.Secrets.{uncovered_event}
 use Rattle.end_model.specs.Contents.{contents_of}
 use Rattle.end_model.specs.End.{End, Stepped, plain_step, step}
-use Rattle.end_model.specs.Starting.{bare_end, starts}
+use Rattle.end_model.specs.Starting.{starts}
 use Rattle.world_model.specs.declared.refusal.Refusal.TheVariants.{Unfit}
+use Rattle.world_model.specs.declared.standing.Standing.{Standing}
 use Rattle.world_model.specs.declared.stop.StopAt.{StopAt}
-use Rattle.world_model.specs.World.{World, Node, Checkpoint, Sender, Lined, Committed, IsFull, IsCut, IsWhole, quiet_line, with_node, with_birth_at, with_birth, birth_of, is_born, moved, moved_all, sent, shown, shown_all, given, after_step, recorded, recorded_all, is_full, with_stop, kept_by, commits_by, commits, fallen, without_held, held_line, taken_up, cut_line, committed, declared, lac_at, lns_at, down_at, with_call, with_tunnel, later, new_node, added, block_of, stepped, sender_of, crashed, armed, opened, started, line}
+use Rattle.world_model.specs.World.{World, Node, Checkpoint, Sender, Lined, Committed, IsFull, IsCut, IsWhole, quiet_line, with_node, with_birth_at, with_birth, birth_of, standing_of, with_standing_at, with_standing, with_answer_at, answer_in, has_made, makes_epoch, enters_epoch, is_born, moved, moved_all, sent, shown, shown_all, given, after_step, recorded, recorded_all, is_full, with_stop, kept_by, commits_by, commits, fallen, without_held, held_line, taken_up, cut_line, committed, declared, lac_at, lns_at, down_at, with_call, with_tunnel, later, new_node, added, block_of, stepped, sender_of, crashed, armed, opened, started, line}
 use Rattle.step_laws.specs.Looks.{LooksAreTrue, LooksStayTrue, LooksBeginTrue}
 use Rattle.step_laws.specs.Steps.{AreKept, StepsAreChains}
 use Rattle.step_laws.specs.Lines.{tested_not, is_running, is_lac_at, is_lns_at, is_declared, is_down_at, has_call, has_tunnel, IsAt, is_at, at_moment, is_later, committed_line, deliver_line, load_line, IsHeldAt, hand_line}
 use Rattle.step_laws.specs.Hosts.{LacAt, with_host, entering, OfFrame, frame_line}
-use Rattle.book_laws.specs.Books.{IsBook, Fits, AreInPlace, book_after, StepsAreBooked, NewEndsAreBooked}
+use Rattle.book_laws.specs.Books.{IsBook, Fits, AreInPlace, book_after, SuitsRole, LeavesNone, StepsAreBooked, NewEndsAreBooked}
+use Rattle.book_laws.specs.Starts.{StartsAreBooked}
 use Rattle.node_laws.specs.Nodes.{IsSoundBook, HoldsNode, CountsAll, StaysSo}
-use Rattle.node_laws.proofs.Books.{records_keep}
-use Rattle.node_laws.proofs.Ends.{bare_kept, bare_looks, bare_fits, downs, start_leaves, all_down, cleared_book}
+use Rattle.node_laws.proofs.Books.{records_keep, records_suit}
+use Rattle.book_laws.proofs.Starts.{bare_kept}
 
 -- ---- records that are committed
 
@@ -58,6 +61,11 @@ front_in_place : (n : ℕ) (k : Kept) (rs : List Record) → AreInPlace k rs →
 front_in_place zero k rs in_place = tt
 front_in_place (suc n) k [] in_place = tt
 front_in_place (suc n) k (r ∷ rs) in_place = (in_place.0, front_in_place n (with_record k r) rs in_place.1)
+
+front_leaves : (r : Role) (n : ℕ) (rs : List Record) → AllByRecursion (LeavesNone r) rs → AllByRecursion (LeavesNone r) (take n rs)
+front_leaves r zero rs leaves = tt
+front_leaves r (suc n) [] leaves = tt
+front_leaves r (suc n) (x ∷ rs) leaves = (leaves.0, front_leaves r n rs leaves.1)
 
 module _ (k : Checkpoint) (rs : List Record) where
   -- what a checkpoint has where all were committed, and where a stop was reached
@@ -89,12 +97,21 @@ module _ (k : Checkpoint) (rs : List Record) where
       let front = front_in_place h.0 k.book rs in_place in
       subst IsSoundBook (sym (h.1 ∙ (all_counted k (take h.0 rs) front).book)) (records_keep k.book (take h.0 rs) sound front)
 
+  -- and of one that suits a role, one that does
+  pub cut_suits : (r : Role) → SuitsRole r k.book → AreInPlace k.book rs → AllByRecursion (LeavesNone r) rs → (c : Checkpoint) → commits k rs ≡ IsCut c
+      → SuitsRole r c.book
+  cut_suits r suits in_place leaves c is =
+      let h : (n : ℕ) × (c.book ≡ (recorded_all k (take n rs)).book) = subst Has is has in
+      let front = front_in_place h.0 k.book rs in_place in
+      subst (SuitsRole r) (sym (h.1 ∙ (all_counted k (take h.0 rs) front).book)) (records_suit r k.book (take h.0 rs) suits (front_leaves r h.0 rs leaves))
+
 -- ---- nodes of a world
 
 -- what holds of a node speaks of its end, of its checkpoint, and of whether it is up
 pub holds_so : (x y : Node) → y.end ≡ x.end → y.up ≡ x.up → y.checkpoint.book ≡ x.checkpoint.book → HoldsNode x → HoldsNode y
 holds_so x y end up book h = record {
   sound = subst IsSoundBook (sym book) h.sound;
+  suits = subst (λ (e : End). SuitsRole e.role y.checkpoint.book) (sym end) (subst (SuitsRole x.end.role) (sym book) h.suits);
   up = λ is. (let u = h.up (sym up ∙ is) in record {
     kept = subst AreKept (sym end) u.kept;
     looks = subst LooksAreTrue (sym end) u.looks;
@@ -121,15 +138,48 @@ module _ (P : End → Type 0) (so : StaysSo P) where
       (λ o. holds m x (sym (at_other w.nodes n node m o) ∙ there))
       (same_or_not m n)
 
+  -- a node with other births, standings or answers
+  other_holds : (w : World) (n : ℕ) (node more : Node) → at w.nodes n ≡ Some node → more.end ≡ node.end → more.up ≡ node.up
+      → more.checkpoint.book ≡ node.checkpoint.book → WorldHolds w → WorldHolds (with_node w n more)
+  other_holds w n node more is end up book holds =
+      put_holds w n more holds (let h = holds n node is in (holds_so node more end up book h.0, subst P (sym end) h.1))
+
   birth_holds : (w : World) (n session birth : ℕ) → WorldHolds w → WorldHolds (with_birth w n session birth)
   unfolding with_birth
   birth_holds w n session birth holds = by (at w.nodes n) refl
     where
       by : (o : Option Node) → at w.nodes n ≡ o → WorldHolds (with_birth_at w n session birth o)
       by None is = holds
-      by (Some node) is =
-          let more = record node { births = put node.births session birth } in
-          put_holds w n more holds (let h = holds n node is in (holds_so node more refl refl refl h.0, h.1))
+      by (Some node) is = other_holds w n node (record node { births = put node.births session birth }) is refl refl refl holds
+
+  standing_holds : (w : World) (n i : ℕ) (s : Standing) → WorldHolds w → WorldHolds (with_standing w n i s)
+  unfolding with_standing
+  standing_holds w n i s holds = by (at w.nodes n) refl
+    where
+      by : (o : Option Node) → at w.nodes n ≡ o → WorldHolds (with_standing_at w n i s o)
+      by None is = holds
+      by (Some node) is = other_holds w n node (record node { standings = put node.standings i s }) is refl refl refl holds
+
+  answer_holds : (w : World) (n answer epoch : ℕ) → WorldHolds w → WorldHolds (with_answer_at w n answer epoch (at w.nodes n))
+  answer_holds w n answer epoch holds = by (at w.nodes n) refl
+    where
+      by : (o : Option Node) → at w.nodes n ≡ o → WorldHolds (with_answer_at w n answer epoch o)
+      by None is = holds
+      by (Some node) is = other_holds w n node (record node { answers = put node.answers answer epoch }) is refl refl refl holds
+
+  made_holds : (w : World) (n i epoch : ℕ) → WorldHolds w → WorldHolds (has_made w n i epoch)
+  made_holds w n i epoch holds = standing_holds w n i (record (standing_of w n i) { made = epoch }) holds
+
+  epoch_holds : (w : World) (n i m j answer : ℕ) → WorldHolds w → WorldHolds (makes_epoch w n i m j answer)
+  unfolding makes_epoch
+  epoch_holds w n i m j answer holds =
+      let epoch = min ((standing_of w n i).made + 1) (2 ^ 64 - 1) in
+      answer_holds (has_made (has_made w n i epoch) m j epoch) n answer epoch
+      (made_holds (has_made w n i epoch) m j epoch (made_holds w n i epoch holds))
+
+  enters_holds : (w : World) (n i epoch : ℕ) → WorldHolds w → WorldHolds (enters_epoch w n i epoch)
+  unfolding enters_epoch
+  enters_holds w n i epoch holds = standing_holds w n i (record (standing_of w n i) { epoch = epoch; lost = None }) holds
 
   moved_holds : (n : ℕ) (m : Move) (w : World) → WorldHolds w → WorldHolds (moved n w m)
   unfolding moved is_born
@@ -162,6 +212,14 @@ module _ (P : End → Type 0) (so : StaysSo P) where
   moved_holds n (move.FrameUp m) w holds = holds
   moved_holds n (move.Cleared i booked) w holds = holds
   moved_holds n (move.Quiet i) w holds = holds
+  moved_holds n (move.Froze m) w holds = epoch_holds w n m.tunnel (node_of m.peer) m.remote m.answer holds
+  moved_holds n (move.ResetAttempting m) w holds = enters_holds w n m.tunnel (answer_in (at w.nodes (node_of m.peer)) m.answer) holds
+  moved_holds n (move.ResetAnswering m) w holds = enters_holds w n m.tunnel (answer_in (at w.nodes n) m.answer) holds
+  moved_holds n (move.Restored m) w holds = holds
+  moved_holds n (move.Forgot m) w holds = holds
+  moved_holds n (move.RecoveryWentOn i) w holds = holds
+  moved_holds n (move.RecoveryEnded i) w holds = holds
+  moved_holds n (move.Ignored i) w holds = holds
 
   all_hold : (n : ℕ) (ms : List Move) (w : World) → WorldHolds w → WorldHolds (moved_all n ms w)
   unfolding moved_all
@@ -182,18 +240,22 @@ module _ (P : End → Type 0) (so : StaysSo P) where
   -- what is known of what a step of a node leaves
   pub record StepHolds (node : Node) (s : Stepped) : Type 0 where
     pub sound : IsSoundBook node.checkpoint.book
+    pub suits : SuitsRole node.end.role node.checkpoint.book
     pub in_place : AreInPlace node.checkpoint.book (contents_of node.end s)
     pub kept : AreKept s.end
     pub looks : LooksAreTrue s.end
     pub fit : Fits s.end
     pub book : IsBook s.end (book_after node.checkpoint.book (contents_of node.end s))
+    pub calls : AllByRecursion (LeavesNone node.end.role) (contents_of node.end s)
+    pub role : s.end.role ≡ node.end.role
     pub up : node.up ≡ true
     pub has : P s.end
 
-  fallen_holds : (block : List ℕ) (node : Node) (k : Checkpoint) → IsSoundBook k.book → HoldsWith (fallen block node k)
+  fallen_holds : (block : List ℕ) (before : End) (node : Node) (k : Checkpoint) → IsSoundBook k.book → SuitsRole node.end.role k.book
+      → HoldsWith (fallen block before node k)
   unfolding fallen
-  fallen_holds block node k sound =
-      (record { sound = sound; up = λ is. absurd (true≢false (sym is)); down = λ is. refl }, so.bare node.end.role node.end.config k.book sound)
+  fallen_holds block before node k sound suits =
+      (record { sound = sound; suits = suits; up = λ is. absurd (true≢false (sym is)); down = λ is. refl }, so.bare node.end.role node.end.config k.book sound)
 
   module _ (w : World) (number : ℕ) (holds : WorldHolds w) where
     after_holds : (n : ℕ) (node : Node) (sender : Option Sender) (s : Stepped) → HoldsWith (record node { end = s.end })
@@ -203,9 +265,9 @@ module _ (P : End → Type 0) (so : StaysSo P) where
         let ended = record node { end = s.end } in
         shown_holds n s.outputs (moved_all n s.moves (with_node w n ended)) (all_hold n s.moves (with_node w n ended) (put_holds w n ended holds is))
 
-    cut_holds : (n : ℕ) (node : Node) (k : Checkpoint) → HoldsWith (fallen (block_of n number) node k) → WorldHolds (cut_line w number n node k).world
+    cut_holds : (n : ℕ) (node : Node) (k : Checkpoint) → HoldsWith (fallen (block_of n number) node.end node k) → WorldHolds (cut_line w number n node k).world
     unfolding cut_line
-    cut_holds n node k is = put_holds w n (fallen (block_of n number) node k) holds is
+    cut_holds n node k is = put_holds w n (fallen (block_of n number) node.end node k) holds is
 
     step_holds : (n : ℕ) (node : Node) (sender : Option Sender) (s : Stepped) → StepHolds node s
         → (x : Lined) → committed w number n node sender s ≡ Ok x → WorldHolds x.world
@@ -217,13 +279,16 @@ module _ (P : End → Type 0) (so : StaysSo P) where
         let book = whole_book node.checkpoint rs h.in_place k whole in
         let good : HoldsNode ended = record {
           sound = subst IsSoundBook (sym book) (records_keep node.checkpoint.book rs h.sound h.in_place);
+          suits = subst (SuitsRole s.end.role) (sym book)
+              (subst (λ r. SuitsRole r (book_after node.checkpoint.book rs)) (sym h.role) (records_suit node.end.role node.checkpoint.book rs h.suits h.calls));
           up = λ up. record { kept = h.kept; looks = h.looks; fit = h.fit; book = subst (IsBook s.end) (sym book) h.book };
           down = λ down. absurd (true≢false (sym h.up ∙ down));
         } in
         subst (λ (l : Lined). WorldHolds l.world) is (after_holds n (record node { checkpoint = k }) sender s (good, h.has)))
         (λ k cut is.
-        let fell = fallen_holds (block_of n number) (record node { end = s.end }) k (cut_book node.checkpoint rs h.sound h.in_place k cut) in
-        subst (λ (l : Lined). WorldHolds l.world) is (cut_holds n (record node { end = s.end }) k fell))
+        let fell = fallen_holds (block_of n number) node.end node k (cut_book node.checkpoint rs h.sound h.in_place k cut)
+        (cut_suits node.checkpoint rs node.end.role h.suits h.in_place h.calls k cut) in
+        subst (λ (l : Lined). WorldHolds l.world) is (cut_holds n node k fell))
         made
 
     -- a node at some moment, with some hosts
@@ -241,25 +306,29 @@ module _ (P : End → Type 0) (so : StaysSo P) where
     unfolding started
     refused_start n y x h = absurd (cc)
 
-    start_holds : (n : ℕ) (node : Node) → at w.nodes n ≡ Some node → node.up ≡ false → (x : Lined) → started w number n (Ok node) ≡ Ok x → WorldHolds x.world
-    unfolding started starts
-    start_holds n node there down x made =
+    start_holds : StartsAreBooked → (n : ℕ) (node : Node) → at w.nodes n ≡ Some node → node.up ≡ false → (x : Lined)
+        → started w number n (Ok node) ≡ Ok x → WorldHolds x.world
+    unfolding started
+    start_holds starting n node there down x made =
         let h = (holds n node there).0 in
         let k = node.checkpoint.book in
         let r = node.end.role in
         let c = node.end.config in
-        let s = starts r c k in
-        let leaves : contents_of node.end s ≡ downs k.tunnels = subst (λ (e : End). contents_of e s ≡ downs k.tunnels) (sym (h.down down)) (start_leaves r c k) in
-        let goes = all_down k.tunnels k refl h.sound in
+        let s = starts r c k node.clock (block_of n number) in
+        let b = starting r c k h.sound h.suits node.clock (block_of n number) in
+        let is = sym (h.down down) in
         step_holds n (opened (block_of n number) node) None s (record {
           sound = h.sound;
-          in_place = subst (AreInPlace k) (sym leaves) goes.0;
-          kept = bare_kept r c k;
-          looks = bare_looks r c k;
-          fit = bare_fits r c k h.sound;
-          book = subst (λ (rs : List Record). IsBook (bare_end r c k) (book_after k rs)) (sym leaves) (cleared_book r c k (book_after k (downs k.tunnels)) goes.1);
+          suits = h.suits;
+          in_place = subst (λ (e : End). AreInPlace k (contents_of e s)) is b.in_place;
+          kept = b.kept;
+          looks = b.looks;
+          fit = b.fit;
+          book = subst (λ (e : End). IsBook s.end (book_after k (contents_of e s))) is b.book;
+          calls = subst (λ (e : End). AllByRecursion (LeavesNone r) (contents_of e s)) is b.calls;
+          role = b.role;
           up = refl;
-          has = so.bare r c k h.sound;
+          has = so.starts_so r c k h.sound h.suits node.clock (block_of n number);
         }) x made
 
 -- ---- lines
@@ -278,7 +347,8 @@ later_up milliseconds (Some x) node h = by x.up refl h
     by false up h = absurd (cc)
 
 module _ (P : End → Type 0) (so : StaysSo P) where
-  module _ (chains : StepsAreChains) (looks : LooksStayTrue) (begin : LooksBeginTrue) (booked : StepsAreBooked) (new : NewEndsAreBooked) where
+  module _ (chains : StepsAreChains) (looks : LooksStayTrue) (begin : LooksBeginTrue) (booked : StepsAreBooked) (starting : StartsAreBooked)
+      (new : NewEndsAreBooked) where
     -- a step of a node that is up
     pub up_steps : (node : Node) → HoldsWith P so node → node.up ≡ true → (moment : ℕ) (block : List ℕ) (ev : Event) → StepHolds P so node (plain_step node.end moment block ev)
     up_steps node h up moment block ev =
@@ -286,11 +356,14 @@ module _ (P : End → Type 0) (so : StaysSo P) where
         let b = booked node.end node.checkpoint.book u.kept u.fit u.book moment block ev in
         record {
           sound = h.0.sound;
+          suits = h.0.suits;
           in_place = b.in_place;
           kept = (chains node.end u.kept moment block ev).kept;
           looks = looks node.end u.kept u.looks moment block ev;
           fit = b.fit;
           book = b.book;
+          calls = b.calls;
+          role = b.role;
           up = up;
           has = so.stays node.end u.kept u.looks u.fit h.1 moment block ev;
         }
@@ -304,10 +377,15 @@ module _ (P : End → Type 0) (so : StaysSo P) where
               tunnel_ceiling = omega arith;
               session_ceiling = omega arith;
               draw_ceiling = omega arith;
+              tunnels = tt;
+              calls = tt;
               tunnels_rise = b.book.mirrors.tunnels_rise;
               calls_rise = b.book.mirrors.calls_rise;
               homes = tt;
+              few_tunnels = omega arith;
+              few_calls = λ i. omega arith;
             };
+            suits = tt;
             up = λ up. record { kept = bare_kept r c nothing_kept; looks = begin r c; fit = b.fit; book = b.book };
             down = λ down. absurd (true≢false down);
           },
@@ -416,9 +494,10 @@ module _ (P : End → Type 0) (so : StaysSo P) where
           by : (o : Result Node Why) → ((node : Node) → o ≡ Ok node → at w.nodes n ≡ Some node) → crashed w number n o ≡ Ok x → WorldHolds P so x.world
           by (Err y) is h = absurd (cc)
           by (Ok node) is h =
-              let e : quiet_line (without_held (with_node w n (fallen (block_of n number) node node.checkpoint)) n) ≡ x = cc in
-              let fell = fallen_holds P so (block_of n number) node node.checkpoint (holds n node (is node refl)).0.sound in
-              subst (λ (l : Lined). WorldHolds P so l.world) e (put_holds P so w n (fallen (block_of n number) node node.checkpoint) holds fell)
+              let e : quiet_line (without_held (with_node w n (fallen (block_of n number) node.end node node.checkpoint)) n) ≡ x = cc in
+              let h = (holds n node (is node refl)).0 in
+              let fell = fallen_holds P so (block_of n number) node.end node node.checkpoint h.sound h.suits in
+              subst (λ (l : Lined). WorldHolds P so l.world) e (put_holds P so w n (fallen (block_of n number) node.end node node.checkpoint) holds fell)
       line_holds x (Stop n commit call kept) h = by (declared (at w.nodes n)) (λ node e. is_declared (at w.nodes n) node e) h
         where
           by : (o : Result Node Why) → ((node : Node) → o ≡ Ok node → at w.nodes n ≡ Some node)
@@ -432,4 +511,4 @@ module _ (P : End → Type 0) (so : StaysSo P) where
         where
           by : (o : Result Node Why) → ((node : Node) → o ≡ Ok node → (at w.nodes n ≡ Some node) × (node.up ≡ false)) → started w number n o ≡ Ok x → WorldHolds P so x.world
           by (Err y) is h = refused_start P so w number holds n y x h
-          by (Ok node) is h = let k = is node refl in start_holds P so w number holds n node k.0 k.1 x h
+          by (Ok node) is h = let k = is node refl in start_holds P so w number holds starting n node k.0 k.1 x h

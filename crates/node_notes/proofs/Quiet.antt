@@ -25,6 +25,11 @@ silent (move.SecondUp m) cause h = cc
 silent (move.EndTold m) cause h = cc
 silent (move.EndHeard m) cause h = cc
 silent (move.EndSilent m) cause h = cc
+silent (move.Restored m) cause h = cc
+silent (move.Forgot m) cause h = cc
+silent (move.Froze m) cause h = cc
+silent (move.ResetAttempting m) cause h = cc
+silent (move.ResetAnswering m) cause h = cc
 silent m cause h = refl
 
 -- ---- of a list
@@ -59,6 +64,11 @@ one_more (move.SecondUp m) cause ns ms h = ap suc h
 one_more (move.EndTold m) cause ns ms h = ap suc h
 one_more (move.EndHeard m) cause ns ms h = ap suc h
 one_more (move.EndSilent m) cause ns ms h = ap suc h
+one_more (move.Restored m) cause ns ms h = ap suc h
+one_more (move.Forgot m) cause ns ms h = ap suc h
+one_more (move.Froze m) cause ns ms h = ap suc h
+one_more (move.ResetAttempting m) cause ns ms h = ap suc h
+one_more (move.ResetAnswering m) cause ns ms h = ap suc h
 one_more m cause ns ms h = h
 
 as_many : (causes : List Cause) (ms : List Move) → length (notes_by causes ms) ≡ length (filter (λ x. not (is_quiet x)) ms)

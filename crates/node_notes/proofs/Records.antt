@@ -7,10 +7,10 @@ use Rattle.session_book.specs.declared.record.Record.{Record}
 use Rattle.session_book.specs.declared.record.Record.TheVariants.{TunnelDown, CallDown}
 use Rattle.end_model.specs.declared.moves.Move.{Move}
 use Rattle.end_model.specs.declared.moves.Move.TheVariants as move
-use Rattle.end_model.specs.Contents.{records_of, call_down, tunnel_down}
+use Rattle.end_model.specs.Contents.{records_of, call_down, tunnel_down, mark_by}
 use Rattle.node_notes.specs.declared.note.Note.{Note}
 use Rattle.node_notes.specs.Notes.{note_of, notes_by, causes_of, cause_for, causes_behind, tells_code}
-use Rattle.node_notes.specs.Telling.{Tells, AreTold, NoneLeft, ToldBy, ToldLater, RecordsHaveTheirNotes}
+use Rattle.node_notes.specs.Telling.{Tells, AreTold, NoneLeft, ToldBy, ToldLater, Untold, RecordsHaveTheirNotes}
 
 -- where something goes that the checkpoint has, its note tells that
 call_told : (b : Bool) (s : ℕ) (n : Note) (rs : List Record) (ns : List Note) → Tells (CallDown s) n → AreTold rs ns
@@ -22,6 +22,12 @@ tunnel_told : (b : Bool) (i : ℕ) (n : Note) (rs : List Record) (ns : List Note
     → AreTold (tunnel_down b i ++ rs) (n ∷ ns)
 tunnel_told true i n rs ns h later = ToldBy (TunnelDown i) rs n ns h later
 tunnel_told false i n rs ns h later = ToldLater rs n ns later
+
+-- a mark that rises has no note of its own
+mark_untold : (b : Bool) (i mark : ℕ) (n : Note) (rs : List Record) (ns : List Note) → AreTold rs ns
+    → AreTold (mark_by b i mark ++ rs) (n ∷ ns)
+mark_untold true i mark n rs ns later = Untold i mark rs (n ∷ ns) (ToldLater rs n ns later)
+mark_untold false i mark n rs ns later = ToldLater rs n ns later
 
 -- what a move leaves is told by its note, before what is told later
 told_first : (m : Move) (cause : Option Cause) (rs : List Record) (ns : List Note) → AreTold rs ns
@@ -39,6 +45,11 @@ told_first (move.ClosedBy m) cause rs ns later = tunnel_told m.booked m.tunnel _
 told_first (move.Cleared i true) cause rs ns later = ToldBy (TunnelDown i) rs _ ns refl later
 told_first (move.Cleared i false) cause rs ns later = ToldLater rs _ ns later
 told_first (move.Rejected m) cause rs ns later = ToldLater rs _ ns later
+told_first (move.Restored m) cause rs ns later = ToldLater rs _ ns later
+told_first (move.Forgot m) cause rs ns later = ToldBy (TunnelDown m.tunnel) rs _ ns refl later
+told_first (move.Froze m) cause rs ns later = mark_untold m.marked m.tunnel m.asked _ rs ns later
+told_first (move.ResetAttempting m) cause rs ns later = mark_untold m.marked m.tunnel m.draw _ rs ns later
+told_first (move.ResetAnswering m) cause rs ns later = ToldLater rs _ ns later
 told_first m cause rs ns later = later
 
 all_told : (causes : List Cause) (ms : List Move) → AreTold (flat_map (λ m. records_of m) ms) (notes_by causes ms)

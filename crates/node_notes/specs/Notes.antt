@@ -22,8 +22,8 @@ causes_of outputs = flat_map cause_of_output outputs
 
 -- a move by which a peer is told a result code. Each of the definitions that make one tells one cause before it: `end_told` (in Closing),
 -- `closed_told` and `rejected` (in Stopping), `refused` (in Refusing) and `declined` (in End). A step that tells a cause without such a
--- move, of a ring or an opening that is refused, makes no such move. So the causes of a step and these moves go together, one with one, in
--- order
+-- move, of a ring or an opening that is refused, or of a recovery that is given up, makes no such move. So the causes of a step and these
+-- moves go together, one with one, in order
 abbrev pub tells_code : Move → Bool
 tells_code (move.EndTold m) = true
 tells_code (move.Refused m) = true
@@ -46,15 +46,16 @@ causes_behind tells cs = cs
 abbrev pub told : ℕ → Option ℕ → Option CauseOf → Told
 told result error cause = record { result = result; error = error; cause = cause }
 
--- a tunnel is removed without a word to its peer. One that was established is lost: its channel failed, or its end started again. Any
--- other was closed before, and told then, or was given up before it was established
+-- a tunnel is removed without a word to its peer. One that was established is lost: its channel failed, its recovery did, or it was closed
+-- while it was recovered. Any other was closed before, and told then, or was given up before it was established
 abbrev pub cleared : ℕ → Bool → Note
 cleared tunnel true = note.TunnelLost tunnel
 cleared tunnel false = note.TunnelRemoved tunnel
 
--- A tunnel or a call of this end comes up or ends. Nothing is told of what a datagram does beside that: an opening that is declined and a
--- call that is refused are answered, and have no id of this end, so that a stranger who sends as many as he likes makes no line. Calls that
--- go with their tunnel have no move, and the line of the tunnel tells them
+-- A tunnel or a call of this end comes up or ends, or a tunnel is there again after a crash, frozen, or recovered. Nothing is told of what
+-- a datagram does beside that: an opening that is declined and a call that is refused are answered, and have no id of this end, so that a
+-- stranger who sends as many as he likes makes no line. Calls that go with their tunnel, come back with it, or end as it is frozen have no
+-- move, and the line of the tunnel tells them. A tunnel that was kept and is given up at a start is lost
 unfoldable pub note_of : Move → Option CauseOf → Option Note
 note_of (move.Connected m) cause = Some (note.TunnelUp m.tunnel m.peer m.remote)
 note_of (move.Confirmed m) cause = Some (note.TunnelUp m.tunnel m.peer m.remote)
@@ -67,6 +68,11 @@ note_of (move.SecondUp m) cause = Some (note.CallUp m.session m.tunnel m.remote 
 note_of (move.EndTold m) cause = Some (note.CallGone m.session m.tunnel (told m.result m.error cause))
 note_of (move.EndHeard m) cause = Some (note.CallGoneBy m.session m.tunnel)
 note_of (move.EndSilent m) cause = Some (note.CallLeft m.session m.tunnel)
+note_of (move.Restored m) cause = Some (note.TunnelRestored m.tunnel.local m.tunnel.peer m.tunnel.remote)
+note_of (move.Forgot m) cause = Some (note.TunnelLost m.tunnel)
+note_of (move.Froze m) cause = Some (note.TunnelFrozen m.tunnel)
+note_of (move.ResetAttempting m) cause = Some (note.TunnelRecovered m.tunnel)
+note_of (move.ResetAnswering m) cause = Some (note.TunnelRecovered m.tunnel)
 note_of m cause = None
 
 -- ---- what is told of a step

@@ -1,8 +1,8 @@
 -- That the right moves make a line, and no other.
-use Rattle.std.specs.Prelude.{◌≡◌, List, [], ◌∷◌, replicate, length, filter, Bool, true, false, not, unwrap_or}
+use Rattle.std.specs.Prelude.{◌≡◌, ℕ, List, [], ◌∷◌, replicate, length, filter, Bool, true, false, not, unwrap_or}
 use Rattle.std.specs.List.{flat_map, list_all}
 use Rattle.session_book.specs.declared.record.Record.{Record}
-use Rattle.session_book.specs.declared.record.Record.TheVariants.{TunnelUp, TunnelDown, CallUp, CallDown}
+use Rattle.session_book.specs.declared.record.Record.TheVariants.{TunnelUp, TunnelDown, CallUp, CallDown, Mark}
 use Rattle.end_model.specs.declared.out.Out.{Out}
 use Rattle.end_model.specs.declared.moves.Move.{Move}
 use Rattle.end_model.specs.declared.moves.Move.TheVariants as move
@@ -14,8 +14,9 @@ use Rattle.node_notes.specs.Texts.{notes_text}
 
 -- ---- what makes no line
 
--- neither a tunnel nor a call of this end comes up or ends: an opening that is declined, a call that is refused, a letter that is taken,
--- sent or repeated, an acknowledgement, a frame, and what only begins
+-- neither a tunnel nor a call of this end comes up or ends, and no tunnel is restored, frozen or recovered: an opening that is declined, a
+-- call that is refused, a letter that is taken, sent or repeated, an acknowledgement, a frame, what only begins, what a recovery tunnel
+-- does beside its reset, and a message that a tunnel which is recovered passes over
 abbrev pub is_quiet : Move → Bool
 is_quiet (move.Opened m) = true
 is_quiet (move.Accepted m) = true
@@ -34,6 +35,9 @@ is_quiet (move.Negotiated m) = true
 is_quiet (move.Counted m) = true
 is_quiet (move.FrameSent m) = true
 is_quiet (move.FrameUp m) = true
+is_quiet (move.RecoveryWentOn tunnel) = true
+is_quiet (move.RecoveryEnded tunnel) = true
+is_quiet (move.Ignored tunnel) = true
 is_quiet m = false
 
 -- a step whose moves are all quiet makes no text, whatever it gives
@@ -59,11 +63,13 @@ Tells (CallDown s) (note.CallGoneBy call tunnel) = call ≡ s
 Tells (CallDown s) (note.CallLeft call tunnel) = call ≡ s
 Tells r n = ⊥
 
--- the notes tell the records in their order, each by a note of its own; there may be other notes between them
+-- the notes tell the records of tunnels and calls that come up or go, in their order, each by a note of its own. The record of a mark has
+-- none: an operator isn't told of marks. There may be other notes between those
 pub data AreTold : List Record → List Note → Type 0 where
   NoneLeft : (ns : List Note) → AreTold [] ns
   ToldBy : (r : Record) (rs : List Record) (n : Note) (ns : List Note) → Tells r n → AreTold rs ns → AreTold (r ∷ rs) (n ∷ ns)
   ToldLater : (rs : List Record) (n : Note) (ns : List Note) → AreTold rs ns → AreTold rs (n ∷ ns)
+  Untold : (tunnel mark : ℕ) (rs : List Record) (ns : List Note) → AreTold rs ns → AreTold (Mark tunnel mark ∷ rs) ns
 
 -- no tunnel and no call comes into a checkpoint or goes from it without a note
 abbrev pub RecordsHaveTheirNotes : Type 0

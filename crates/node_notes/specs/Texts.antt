@@ -55,8 +55,10 @@ subscriber_text (Some who) = codes " subscriber " ++ mac_text who
 
 -- ---- lines
 
-unfoldable pub tunnel_up_text : ℕ → ℕ → ℕ → List ℕ
-tunnel_up_text tunnel peer remote = ended (codes "tunnel" & decimal tunnel & codes "up peer" & address_text peer & codes "remote" & decimal remote)
+-- a tunnel that is there, in words behind which its peer stands, and the id that the peer assigned
+unfoldable pub tunnel_peer_text : ℕ → List ℕ → ℕ → ℕ → List ℕ
+tunnel_peer_text tunnel words peer remote =
+    ended (codes "tunnel" & decimal tunnel & words & address_text peer & codes "remote" & decimal remote)
 
 -- what became of a tunnel, in words
 unfoldable pub tunnel_text : ℕ → List ℕ → List ℕ
@@ -81,7 +83,10 @@ abbrev pub gone_text : ℕ → ℕ → List ℕ → List ℕ
 gone_text call tunnel behind = ended (gone_words call tunnel ++ behind)
 
 unfoldable pub note_text : Note → List ℕ
-note_text (note.TunnelUp tunnel peer remote) = tunnel_up_text tunnel peer remote
+note_text (note.TunnelUp tunnel peer remote) = tunnel_peer_text tunnel (codes "up peer") peer remote
+note_text (note.TunnelRestored tunnel peer remote) = tunnel_peer_text tunnel (codes "restored peer") peer remote
+note_text (note.TunnelFrozen tunnel) = tunnel_text tunnel (codes "frozen")
+note_text (note.TunnelRecovered tunnel) = tunnel_text tunnel (codes "recovered")
 note_text (note.TunnelClosed tunnel told) = tunnel_closed_text tunnel told
 note_text (note.TunnelClosedBy tunnel) = tunnel_text tunnel (codes "closed by peer")
 note_text (note.TunnelLost tunnel) = tunnel_text tunnel (codes "lost")

@@ -1,5 +1,6 @@
-//! The lines that an operator reads: a line for each tunnel and each call of an end that comes up or ends in a step, and none for any
-//! other datagram. They are made from the moves and the outputs of the step, and change nothing.
+//! The lines that an operator reads: a line for each tunnel and each call of an end that comes up or ends in a step, and for each tunnel
+//! that is restored, frozen or recovered, and none for any other datagram. They are made from the moves and the outputs of the step, and
+//! change nothing.
 #![tactic(auto)]
 
 mod causes;

@@ -5,6 +5,7 @@ ghost use Rattle.node_notes.specs.Notes.{told, cleared, note_of};
 ghost use Rattle.node_notes.specs.declared.note.Note.TheVariants as note;
 
 use end_model::{EndTold, Move};
+use session_book::BookTunnel;
 use wire_base::Cause;
 
 /// What a peer was told by a StopCCN or a CDN (RFC 2661 section 4.4.2).
@@ -34,6 +35,21 @@ pub enum Note {
     TunnelClosedBy {
         tunnel: u16,
     },
+    /// A tunnel that was kept over a crash is there again with its calls, and its recovery is attempted (RFC 4951 section 4.3).
+    TunnelRestored {
+        tunnel: u16,
+        peer: u32,
+        remote: u16,
+    },
+    /// The attempt of its peer at its recovery is answered: until it is done, no letter goes or is taken. Its calls that weren't
+    /// established ended with it.
+    TunnelFrozen {
+        tunnel: u16,
+    },
+    /// It was restored or frozen, and its channel begins anew.
+    TunnelRecovered {
+        tunnel: u16,
+    },
     /// An established tunnel is gone with its calls, and its peer wasn't told.
     TunnelLost {
         tunnel: u16,
@@ -60,7 +76,7 @@ pub enum Note {
         call: u32,
         tunnel: u16,
     },
-    /// A call ended of which the peer knows nothing.
+    /// A call ended, and the peer wasn't told: it knows nothing of it, or the tunnel was restored or frozen.
     CallLeft {
         call: u16,
         tunnel: u16,
@@ -75,6 +91,17 @@ fn tunnel_up(tunnel: u16, peer: u32, remote: u16) -> Note
         tunnel,
         peer,
         remote,
+    }
+}
+
+/// A tunnel that was kept, and is there again.
+fn restored(kept: &BookTunnel) -> Note
+    ensures { result ≡ note.TunnelRestored kept.now.local kept.now.peer kept.now.remote }
+{
+    Note::TunnelRestored {
+        tunnel: kept.local,
+        peer: kept.peer,
+        remote: kept.remote,
     }
 }
 
@@ -151,6 +178,19 @@ pub(crate) fn note_of(step: &Move, cause: Option<Cause>) -> Option<Note>
         Move::EndSilent(end) => Some(Note::CallLeft {
             call: end.session,
             tunnel: end.tunnel,
+        }),
+        Move::Restored(back) => Some(restored(&back.tunnel)),
+        Move::Forgot(gone) => Some(Note::TunnelLost {
+            tunnel: gone.tunnel,
+        }),
+        Move::Froze(frozen) => Some(Note::TunnelFrozen {
+            tunnel: frozen.tunnel,
+        }),
+        Move::ResetAttempting(reset) => Some(Note::TunnelRecovered {
+            tunnel: reset.tunnel,
+        }),
+        Move::ResetAnswering(reset) => Some(Note::TunnelRecovered {
+            tunnel: reset.tunnel,
         }),
         _ => None,
     }

@@ -2,7 +2,7 @@
 
 ghost use Rattle.std.specs.Prelude.{◌≡◌, ◌≢◌, ◌<◌, [], ◌++◌, length, OnOk, OnErr, option_to_list};
 ghost use Rattle.std.specs.List.{flat_map};
-ghost use Rattle.node_notes.specs.Texts.{tunnel_up_text, tunnel_text, tunnel_closed_text, told_text, call_up_words, call_up_text, gone_words, gone_text, note_text, notes_text};
+ghost use Rattle.node_notes.specs.Texts.{tunnel_peer_text, tunnel_text, tunnel_closed_text, told_text, call_up_words, call_up_text, gone_words, gone_text, note_text, notes_text};
 
 use crate::causes::cause_with;
 use crate::note::{Note, Told, note_of};
@@ -10,14 +10,20 @@ use crate::pieces::{push_address, push_count, push_subscriber, push_told, push_w
 use end_model::{Move, Out};
 use wire_base::{Bytes, NoMemory};
 
-/// A tunnel that is established.
-#[tactic(auto, unfolding(crate::specs::Texts::tunnel_up_text))]
-fn push_tunnel_up(out: &mut Bytes, tunnel: u16, peer: u32, remote: u16) -> Result<(), NoMemory>
-    ensures { OnOk result (out.new ≡ out.old ++ tunnel_up_text tunnel peer remote) }
+/// A tunnel that is there, in words, and its peer behind them.
+#[tactic(auto, unfolding(crate::specs::Texts::tunnel_peer_text))]
+fn push_tunnel_peer(
+    out: &mut Bytes,
+    tunnel: u16,
+    words: &[u8],
+    peer: u32,
+    remote: u16,
+) -> Result<(), NoMemory>
+    ensures { OnOk result (out.new ≡ out.old ++ tunnel_peer_text tunnel words.now peer remote) }
 {
     out.push_slice(b"tunnel")?;
     push_count(out, u32::from(tunnel))?;
-    push_word(out, b"up peer")?;
+    push_word(out, words)?;
     push_address(out, peer)?;
     push_word(out, b"remote")?;
     push_count(out, u32::from(remote))?;
@@ -114,7 +120,14 @@ fn push_note(out: &mut Bytes, note: &Note) -> Result<(), NoMemory>
             tunnel,
             peer,
             remote,
-        } => push_tunnel_up(out, *tunnel, *peer, *remote),
+        } => push_tunnel_peer(out, *tunnel, b"up peer", *peer, *remote),
+        Note::TunnelRestored {
+            tunnel,
+            peer,
+            remote,
+        } => push_tunnel_peer(out, *tunnel, b"restored peer", *peer, *remote),
+        Note::TunnelFrozen { tunnel } => push_tunnel(out, *tunnel, b"frozen"),
+        Note::TunnelRecovered { tunnel } => push_tunnel(out, *tunnel, b"recovered"),
         Note::TunnelClosed { tunnel, told } => push_closed(out, *tunnel, told),
         Note::TunnelClosedBy { tunnel } => push_tunnel(out, *tunnel, b"closed by peer"),
         Note::TunnelLost { tunnel } => push_tunnel(out, *tunnel, b"lost"),
@@ -144,8 +157,8 @@ fn push_if_any(out: &mut Bytes, note: &Option<Note>) -> Result<(), NoMemory>
 }
 
 /// Appends the lines that an operator reads of a step, by its moves and its outputs: `docs/notes.md` has their forms. A step by which
-/// neither a tunnel nor a call of the end comes up or ends has none, and takes no memory. Where memory is wanting, for a line that
-/// there is, a part of the lines may be appended, and whoever asked for them drops them.
+/// neither a tunnel nor a call of the end comes up or ends, and no tunnel is restored, frozen or recovered, has none, and takes no memory.
+/// Where memory is wanting, for a line that there is, a part of the lines may be appended, and whoever asked for them drops them.
 #[tactic(auto, unfolding(crate::specs::Notes::notes_by))]
 pub fn push_notes(out: &mut Bytes, moves: &[Move], outputs: &[Out]) -> Result<(), NoMemory>
     ensures ok { OnOk result (out.new ≡ out.old ++ notes_text moves.now outputs.now) }

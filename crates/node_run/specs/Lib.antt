@@ -6,3 +6,4 @@ pub mod Opening
 pub mod Outs
 pub mod Serves
 pub mod Steps
+pub mod Stops

@@ -3,7 +3,7 @@ use Rattle.std.specs.Prelude.{◌≡◌, ℕ, Bool, true, false, List, map, Opti
 use Rattle.wire_base.specs.Causes.{Rose}
 use Rattle.disk_core.specs.Disk.{Held}
 use Rattle.end_names.specs.declared.role.Role.TheVariants as roles
-use Rattle.end_core.specs.declared.end.Given.{Given}
+use Rattle.stored_ends.specs.Cores.{Given}
 use Rattle.end_model.specs.declared.tunnel.Config.{Config}
 use Rattle.end_model.specs.Contents.{contents_of}
 use Rattle.end_model.specs.Starting.{bare_end, starts}
@@ -32,25 +32,25 @@ given_of (Lns s) g = given_of_lns g
 
 module _ {D : Type 0} (holds : D → Option Held) (reach calls_left faults : D → ℕ) where
   -- the end was opened over what the disk held, and this is what its start gave
-  abbrev pub NodeStarts : Bool → Config → List ℕ → D → D → NodeEnd → Given → Type 0
-  NodeStarts true config key disk now (Lac s) g = OpensLac holds reach calls_left faults config key disk now s g
-  NodeStarts true config key disk now (Lns s) g = ⊥
-  NodeStarts false config key disk now (Lac s) g = ⊥
-  NodeStarts false config key disk now (Lns s) g = OpensLns holds reach calls_left faults config disk now s g
+  abbrev pub NodeStarts : Bool → Config → ℕ → List ℕ → D → D → NodeEnd → Given → Type 0
+  NodeStarts true config moment block disk now (Lac s) g = OpensLac holds reach calls_left faults config moment block block disk now s g
+  NodeStarts true config moment block disk now (Lns s) g = ⊥
+  NodeStarts false config moment block disk now (Lac s) g = ⊥
+  NodeStarts false config moment block disk now (Lns s) g = OpensLns holds reach calls_left faults config moment block disk now s g
 
   -- the log was told of that, and this is what goes to the ports
-  abbrev pub NodeOpens : Bool → Config → List ℕ → D → D → Sunk → Sunk → NodeEnd → List Going → Type 0
-  NodeOpens lac config key disk now log log' end outs =
-      (g : Given) × NodeStarts lac config key disk now end g × Noted (notes_text g.moves g.outputs) log log' × (outs ≡ given_of end g)
+  abbrev pub NodeOpens : Bool → Config → ℕ → List ℕ → D → D → Sunk → Sunk → NodeEnd → List Going → Type 0
+  NodeOpens lac config moment block disk now log log' end outs =
+      (g : Given) × NodeStarts lac config moment block disk now end g × Noted (notes_text g.moves g.outputs) log log' × (outs ≡ given_of end g)
 
   -- why it wasn't; or it was, and memory was wanting for what its start gives
-  abbrev pub StaysShut : Bool → Config → List ℕ → D → D → Sunk → Sunk → NodeUnopened → Type 0
-  StaysShut true config key disk now log log' (Shut stop) =
-      OpenStops holds reach calls_left faults 1 config.number (λ k. contents_of (bare_end roles.Lac config k) (starts roles.Lac config k)) disk now stop × (log' ≡ log)
-  StaysShut false config key disk now log log' (Shut stop) =
-      OpenStops holds reach calls_left faults 2 config.number (λ k. contents_of (bare_end roles.Lns config k) (starts roles.Lns config k)) disk now stop × (log' ≡ log)
-  StaysShut lac config key disk now log log' Unsent =
-      (end : NodeEnd) × (g : Given) × NodeStarts lac config key disk now end g × Noted (notes_text g.moves g.outputs) log log' × (faults now ≡ faults disk)
+  abbrev pub StaysShut : Bool → Config → ℕ → List ℕ → D → D → Sunk → Sunk → NodeUnopened → Type 0
+  StaysShut true config moment block disk now log log' (Shut stop) =
+      OpenStops holds reach calls_left faults 1 config.number (λ k. contents_of (bare_end roles.Lac config k) (starts roles.Lac config k moment block)) disk now stop × (log' ≡ log)
+  StaysShut false config moment block disk now log log' (Shut stop) =
+      OpenStops holds reach calls_left faults 2 config.number (λ k. contents_of (bare_end roles.Lns config k) (starts roles.Lns config k moment block)) disk now stop × (log' ≡ log)
+  StaysShut lac config moment block disk now log log' Unsent =
+      (end : NodeEnd) × (g : Given) × NodeStarts lac config moment block disk now end g × Noted (notes_text g.moves g.outputs) log log' × (faults now ≡ faults disk)
 
 -- a fault of the disk is told only where its count rose
 abbrev pub OpenBlames : {T : Type 0} → ℕ → ℕ → Result T NodeUnopened → Type 0

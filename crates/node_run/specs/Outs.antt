@@ -8,7 +8,7 @@ use Rattle.end_model.specs.declared.out.Out.{Out}
 use Rattle.end_model.specs.declared.out.Out.TheVariants as given
 use Rattle.end_model.specs.Access.{Concentrator, Served, farewell}
 use Rattle.end_model.specs.End.{Stepped}
-use Rattle.end_core.specs.Sessions.{subscriber_at}
+use Rattle.stored_ends.specs.Cores.{subscriber_at}
 use Rattle.port_events.specs.declared.end.Out.{Out as Going}
 use Rattle.port_events.specs.declared.end.Out.TheVariants as going
 

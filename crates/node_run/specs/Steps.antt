@@ -6,7 +6,7 @@ use Rattle.end_model.specs.declared.event.Event.{Event}
 use Rattle.end_model.specs.Access.{serves}
 use Rattle.end_model.specs.Contents.{contents_of}
 use Rattle.end_model.specs.End.{Stepped, step}
-use Rattle.lac_core.specs.Gives.{end_step}
+use Rattle.stored_ends.specs.Cores.{end_step}
 use Rattle.end_store.specs.declared.store.StoreStop.{StoreStop}
 use Rattle.end_store.specs.Stored.{Stored}
 use Rattle.stored_ends.specs.Steps.{LacStored, LnsStored, StepsOnDisk}
@@ -100,7 +100,7 @@ running end disk counts log = record { end = end; disk = disk; counts = counts; 
 abbrev pub more : ℕ → ℕ → ℕ
 more n k = min (n + k) (2 ^ 64 - 1)
 
--- the counts after a step: a tick ends a turn, and a tunnel is opened without taking anything
+-- the counts after an event: a tick ends a turn, and a tunnel is opened without taking anything
 abbrev pub counts_after : Counts → Waiting → Counts
 counts_after c (waiting.Datagram peer bytes) = record c { taken = more c.taken 1 }
 counts_after c (waiting.Frame bytes) = record c { taken = more c.taken 1 }
@@ -112,9 +112,13 @@ abbrev pub is_datagram : Going → Bool
 is_datagram (going.Send peer bytes) = true
 is_datagram _ = false
 
--- and those with its outputs
+-- the counts with the datagrams among outputs, which are counted before they go out
+abbrev pub with_sent : Counts → List Going → Counts
+with_sent c outs = record c { sent = more c.sent (count_by is_datagram outs) }
+
+-- the counts after a step, with its outputs
 abbrev pub counted : Counts → Waiting → List Going → Counts
-counted c ev outs = let after = counts_after c ev in record after { sent = more c.sent (count_by is_datagram outs) }
+counted c ev outs = with_sent (counts_after c ev) outs
 
 -- the room that was made on the disk is still there, unless the store is halted
 abbrev pub IsReady : {D : Type 0} → (D → ℕ) → (D → ℕ) → NodeEnd → D → Type 0

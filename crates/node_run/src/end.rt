@@ -2,7 +2,7 @@
 
 ghost use Rattle.std.specs.Prelude.{◌≡◌, false, IfOk, OnOk, IfErr};
 ghost use Rattle.checkpoint_journal.specs.State.{HasRoom};
-ghost use Rattle.lac_core.specs.Gives.{end_step};
+ghost use Rattle.stored_ends.specs.Cores.{end_step};
 ghost use Rattle.end_model.specs.Access.{serves};
 ghost use Rattle.end_model.specs.End.{step};
 ghost use Rattle.node_run.specs.Logs.{sunk, Noted};

@@ -1,7 +1,7 @@
 //! A node's end, its disk, its counts and its log, lent to a turn.
 
 ghost use Rattle.std.specs.Prelude.{◌≡◌, count_by};
-ghost use Rattle.node_run.specs.Steps.{counts_after, is_datagram, more};
+ghost use Rattle.node_run.specs.Steps.{counts_after, is_datagram, with_sent};
 
 use crate::end::{NodeEnd, NodeStop};
 use disk_core::Disk;
@@ -55,9 +55,9 @@ impl Counts {
         }
     }
 
-    /// The counts with those of the outputs that are to be sent.
-    fn with_sent(self, outs: &[Out]) -> Counts
-        ensures { result ≡ record self { sent = more self.sent (count_by is_datagram outs.now) } }
+    /// The counts with the datagrams among these outputs. They are counted before they go out.
+    pub fn with_sent(self, outs: &[Out]) -> Counts
+        ensures { result ≡ with_sent self outs.now }
     {
         Counts {
             sent: self.sent.saturating_add(datagrams(outs) as u64),

@@ -16,4 +16,5 @@ pub use faults::NodeFault;
 pub use lending::Counts;
 pub use logs::{logs_grow, write_lines, write_lost};
 pub use opening::NodeUnopened;
+pub use stored_ends::OpenStop;
 pub use turns::{node_serve, node_turn};

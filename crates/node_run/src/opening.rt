@@ -10,13 +10,11 @@ use crate::end::NodeEnd;
 use crate::logs::note_step;
 use crate::outs;
 use disk_core::Disk;
-use end_core::Given;
 use end_model::Config;
-use lac_core::LacGiven;
 use port_events::Outputs;
 use port_traits::Sink;
 use std::alloc::Global;
-use stored_ends::{OpenStop, StoredLac, StoredLns};
+use stored_ends::{Given, LacGiven, OpenStop, StoredLac, StoredLns};
 use wire_base::NoMemory;
 
 /// Why nothing of a start goes out.
@@ -46,12 +44,13 @@ fn open_lac<D: Disk, K: Sink>(
     disk: &mut D,
     log: &mut K,
     config: Config,
-    key: [u8; 16],
+    moment: u64,
+    block: [u8; 16],
 ) -> Result<(StoredLac, Outputs), NodeUnopened>
-    ensures opened { IfOk result (λ r. NodeOpens D.holds D.reach D.calls_left D.faults true config key disk.old disk.new (sunk (K.faults log.old) (K.taken log.old)) (sunk (K.faults log.new) (K.taken log.new)) (ends.Lac r.0) r.1) }
-    ensures shut { IfErr result (λ why. StaysShut D.holds D.reach D.calls_left D.faults true config key disk.old disk.new (sunk (K.faults log.old) (K.taken log.old)) (sunk (K.faults log.new) (K.taken log.new)) why) }
+    ensures opened { IfOk result (λ r. NodeOpens D.holds D.reach D.calls_left D.faults true config moment block disk.old disk.new (sunk (K.faults log.old) (K.taken log.old)) (sunk (K.faults log.new) (K.taken log.new)) (ends.Lac r.0) r.1) }
+    ensures shut { IfErr result (λ why. StaysShut D.holds D.reach D.calls_left D.faults true config moment block disk.old disk.new (sunk (K.faults log.old) (K.taken log.old)) (sunk (K.faults log.new) (K.taken log.new)) why) }
 {
-    match StoredLac::open(alloc, disk, config, key) {
+    match StoredLac::open(alloc, disk, config, moment, block, block) {
         Err(stop) => Err(NodeUnopened::Shut { stop }),
         Ok((lac, given)) => {
             note_step(alloc, log, given.moves.as_slice(), given.outputs.as_slice());
@@ -69,13 +68,13 @@ fn open_lns<D: Disk, K: Sink>(
     disk: &mut D,
     log: &mut K,
     config: Config,
-    key: [u8; 16],
+    moment: u64,
+    block: [u8; 16],
 ) -> Result<(StoredLns, Outputs), NodeUnopened>
-    ensures opened { IfOk result (λ r. NodeOpens D.holds D.reach D.calls_left D.faults false config key disk.old disk.new (sunk (K.faults log.old) (K.taken log.old)) (sunk (K.faults log.new) (K.taken log.new)) (ends.Lns r.0) r.1) }
-    ensures shut { IfErr result (λ why. StaysShut D.holds D.reach D.calls_left D.faults false config key disk.old disk.new (sunk (K.faults log.old) (K.taken log.old)) (sunk (K.faults log.new) (K.taken log.new)) why) }
+    ensures opened { IfOk result (λ r. NodeOpens D.holds D.reach D.calls_left D.faults false config moment block disk.old disk.new (sunk (K.faults log.old) (K.taken log.old)) (sunk (K.faults log.new) (K.taken log.new)) (ends.Lns r.0) r.1) }
+    ensures shut { IfErr result (λ why. StaysShut D.holds D.reach D.calls_left D.faults false config moment block disk.old disk.new (sunk (K.faults log.old) (K.taken log.old)) (sunk (K.faults log.new) (K.taken log.new)) why) }
 {
-    let _of_lacs = key;
-    match StoredLns::open(alloc, disk, config) {
+    match StoredLns::open(alloc, disk, config, moment, block) {
         Err(stop) => Err(NodeUnopened::Shut { stop }),
         Ok((lns, given)) => {
             note_step(alloc, log, given.moves.as_slice(), given.outputs.as_slice());
@@ -88,29 +87,31 @@ fn open_lns<D: Disk, K: Sink>(
 }
 
 impl NodeEnd {
-    /// Opens a LAC, or an LNS, with this configuration over a disk: its store, and then the end over the store's book, which starts. A LAC
-    /// makes its cookies with this key of 16 bytes. It gives what the start gives to the ports: the hosts of the calls that were kept are
-    /// told by a PADT each. What the start leaves is on the disk before that. Once the end is open the log is told of the tunnels that go.
+    /// Opens a LAC, or an LNS, with this configuration over a disk: its store, and then the end over the store's book, which starts at this
+    /// moment in milliseconds with this block of 16 random bytes, with which a LAC makes its cookies too. It gives what the start gives to
+    /// the ports: the openings that ask for the recovery of tunnels, LCP's requests, and a PADT to each host whose call is given up. What
+    /// the start leaves is on the disk before that. Once the end is open the log is told of the tunnels that come back, or go.
     pub fn open<D: Disk, K: Sink>(
         alloc: Global,
         disk: &mut D,
         log: &mut K,
         lac: bool,
         config: Config,
-        key: [u8; 16],
+        moment: u64,
+        block: [u8; 16],
     ) -> Result<(NodeEnd, Outputs), NodeUnopened>
-        ensures opened { IfOk result (λ r. NodeOpens D.holds D.reach D.calls_left D.faults lac config key disk.old disk.new (sunk (K.faults log.old) (K.taken log.old)) (sunk (K.faults log.new) (K.taken log.new)) r.0 r.1) }
+        ensures opened { IfOk result (λ r. NodeOpens D.holds D.reach D.calls_left D.faults lac config moment block disk.old disk.new (sunk (K.faults log.old) (K.taken log.old)) (sunk (K.faults log.new) (K.taken log.new)) r.0 r.1) }
         ensures running { IfOk result (λ r. (store_of r.0).journal.halted ≡ false) }
         ensures room { IfOk result (λ r. IsReady D.reach D.calls_left r.0 disk.new) }
-        ensures shut { IfErr result (λ why. StaysShut D.holds D.reach D.calls_left D.faults lac config key disk.old disk.new (sunk (K.faults log.old) (K.taken log.old)) (sunk (K.faults log.new) (K.taken log.new)) why) }
+        ensures shut { IfErr result (λ why. StaysShut D.holds D.reach D.calls_left D.faults lac config moment block disk.old disk.new (sunk (K.faults log.old) (K.taken log.old)) (sunk (K.faults log.new) (K.taken log.new)) why) }
         ensures log { Grows (sunk (K.faults log.old) (K.taken log.old)) (sunk (K.faults log.new) (K.taken log.new)) }
         ensures cause { OpenBlames (D.faults disk.old) (D.faults disk.new) result }
     {
         if lac {
-            let (lac, outs) = open_lac(alloc, disk, log, config, key)?;
+            let (lac, outs) = open_lac(alloc, disk, log, config, moment, block)?;
             Ok((NodeEnd::Lac(lac), outs))
         } else {
-            let (lns, outs) = open_lns(alloc, disk, log, config, key)?;
+            let (lns, outs) = open_lns(alloc, disk, log, config, moment, block)?;
             Ok((NodeEnd::Lns(lns), outs))
         }
     }

@@ -4,12 +4,11 @@ ghost use Rattle.std.specs.Prelude.{◌≡◌, ◌++◌, map, IfOk};
 ghost use Rattle.end_model.specs.Access.{farewell};
 ghost use Rattle.node_run.specs.Outs.{session_frame, by_ether, to_host, handed_up, lac_out, replied, lns_out};
 
-use end_core::Given;
 use end_model::mac_of;
-use lac_core::{Lac, LacGiven};
 use port_events::{Out, Outputs};
 use pppoe_wire::{Pppoe, write_frame};
 use std::alloc::Global;
+use stored_ends::{Given, Lac, LacGiven};
 use wire_base::{Bytes, NoMemory, Sequence, Side};
 
 /// The PPPoE session frame (RFC 2516 section 6) of a PPP frame, from its protocol field on, to a host. None where the frame has more

@@ -1,9 +1,9 @@
 -- The run of a plan, and why it ends early.
-use Rattle.std.specs.Prelude.{◌≡◌, ◌⊎◌, ℕ, Bool, List, Option, option_map, unwrap_or, Result, Ok, Err}
+use Rattle.std.specs.Prelude.{◌≡◌, ◌⊎◌, ℕ, Bool, List, Option, option_map, unwrap_or, IfSome, Result, Ok, Err}
 use Rattle.rand_core.specs.Stream.{Stream, fill_bytes}
 use Rattle.wire_base.specs.Causes.{Rose}
 use Rattle.disk_core.specs.Disk.{Held}
-use Rattle.port_traits.specs.Packets.{Moments, passed}
+use Rattle.port_traits.specs.Packets.{Moments, moment, passed}
 use Rattle.port_events.specs.declared.end.Event.{Event}
 use Rattle.port_events.specs.declared.end.Out.{Out}
 use Rattle.port_events.specs.declared.giving.TurnFault.{TurnFault}
@@ -14,7 +14,7 @@ use Rattle.port_turn.specs.Turns.{Waits, Asked}
 use Rattle.port_turn.specs.Runs.{Node, node}
 use Rattle.end_model.specs.declared.tunnel.Config.{Config}
 use Rattle.end_model.specs.End.{new_config}
-use Rattle.stored_ends.specs.declared.stops.OpenStop.TheVariants as opening
+use Rattle.node_run.specs.Stops as opening
 use Rattle.node_words.specs.Plans.{Planned}
 use Rattle.node_run.specs.declared.end.NodeEnd.{NodeEnd}
 use Rattle.node_run.specs.declared.end.NodeStop.{NodeStop}
@@ -27,7 +27,7 @@ use Rattle.node_run.specs.Faults.{Faults, node_fault as fault_of}
 use Rattle.node_run.specs.Logs.{Sunk}
 use Rattle.node_run.specs.Opening.{NodeOpens, StaysShut}
 use Rattle.node_run.specs.Serves.{Serves, EndsShort}
-use Rattle.node_run.specs.Steps.{Running, running, NodeSteps, NodeStops}
+use Rattle.node_run.specs.Steps.{running, with_sent, NodeSteps, NodeStops}
 use Rattle.node_top.specs.declared.exit.NodeExit.{NodeExit}
 use Rattle.node_top.specs.declared.exit.NodeExit.TheVariants as exits
 
@@ -79,6 +79,10 @@ RunBlames old new (Err exits.NoMemory) = new ≡ old
 abbrev pub no_counts : Counts
 no_counts = record { turns = 0; taken = 0; sent = 0 }
 
+-- those of a node whose start gives this, before it opens a tunnel or makes a turn: its datagrams are counted as those of a step
+abbrev pub started_counts : List Out → Counts
+started_counts outs = with_sent no_counts outs
+
 -- what the start of an end gives goes out, and then a tunnel may be opened and turns are made
 pub record GivesAndServes {S : Type 0} (steps : S → ℕ → List ℕ → Event → List Out → S → Type 0) (opens : Bool) (turns : ℕ) (outs : List Out) (old new : Node S) : Type 0 where
   pub mid : Given
@@ -118,40 +122,48 @@ pub record Outside : Type 0 where
 abbrev pub outside : Stream → Option Moments → Given → Waits → Asked → Outside
 outside stream clock given waits asked = record { stream = stream; clock = clock; given = given; waits = waits; asked = asked }
 
--- The run of a plan to its end: the clock is read and the end is opened over what the disk held, with the generator's first block for a key;
--- then it serves. The log is told of the start and of each step.
+-- The run of a plan to its end: the clock is read and the end is opened over what the disk held, at that moment and with the generator's
+-- first block; then it serves. The log is told of the start and of each step.
 pub record Ran {D : Type 0} (holds : D → Option Held) (reach calls_left faults : D → ℕ) (p : Planned) (counts : Counts) (disk now : D) (log log' : Sunk) (old new : Outside) : Type 0 where
+  -- the moment that was read
+  pub begun : ℕ
+  pub read : IfSome old.clock (λ (ms : Moments). begun ≡ moment ms)
   pub opened : NodeEnd
   pub mid : D
   pub mid_log : Sunk
   pub outs : List Out
-  pub opens : NodeOpens holds reach calls_left faults p.identity.lac (config_of p) (fill_bytes 16 old.stream).0 disk mid log mid_log opened outs
+  pub opens : NodeOpens holds reach calls_left faults p.identity.lac (config_of p) begun (fill_bytes 16 old.stream).0 disk mid log mid_log opened outs
   pub end : NodeEnd
   pub serves : GivesAndServes (NodeSteps holds reach calls_left faults) p.texts.opens p.numbers.turns outs
-      (node (fill_bytes 16 old.stream).1 (option_map passed old.clock) (running opened mid no_counts mid_log) old.given old.waits old.asked)
+      (node (fill_bytes 16 old.stream).1 (option_map passed old.clock) (running opened mid (started_counts outs) mid_log) old.given old.waits old.asked)
       (node new.stream new.clock (running end now counts log') new.given new.waits new.asked)
 
 -- The run of a plan that ended before there was anything to go out: the end wasn't opened, or memory was wanting for what its start gives. No
 -- port was touched.
 pub record StayedShut {D : Type 0} (holds : D → Option Held) (reach calls_left faults : D → ℕ) (p : Planned) (exit : NodeExit) (disk now : D) (log log' : Sunk) (old new : Outside) : Type 0 where
+  pub begun : ℕ
+  pub read : IfSome old.clock (λ (ms : Moments). begun ≡ moment ms)
   pub why : NodeUnopened
   pub exit_is : exit ≡ of_opening why
-  pub shut : StaysShut holds reach calls_left faults p.identity.lac (config_of p) (fill_bytes 16 old.stream).0 disk now log log' why
+  pub shut : StaysShut holds reach calls_left faults p.identity.lac (config_of p) begun (fill_bytes 16 old.stream).0 disk now log log' why
   pub given : new.given ≡ old.given
   pub waits : new.waits ≡ old.waits
   pub asks : new.asked ≡ old.asked
 
 -- The run of a plan whose end was opened, and that ended early. The log was told of the start and of each step that was made.
 pub record BrokeOff {D : Type 0} (holds : D → Option Held) (reach calls_left faults : D → ℕ) (p : Planned) (exit : NodeExit) (disk now : D) (log log' : Sunk) (old new : Outside) : Type 0 where
+  -- the moment that was read
+  pub begun : ℕ
+  pub read : IfSome old.clock (λ (ms : Moments). begun ≡ moment ms)
   pub opened : NodeEnd
   pub mid : D
   pub mid_log : Sunk
   pub outs : List Out
-  pub opens : NodeOpens holds reach calls_left faults p.identity.lac (config_of p) (fill_bytes 16 old.stream).0 disk mid log mid_log opened outs
+  pub opens : NodeOpens holds reach calls_left faults p.identity.lac (config_of p) begun (fill_bytes 16 old.stream).0 disk mid log mid_log opened outs
   pub end : NodeEnd
   pub counts : Counts
   pub short : ServesShort (NodeSteps holds reach calls_left faults) (NodeStops holds reach calls_left faults) exit p.texts.opens outs
-      (node (fill_bytes 16 old.stream).1 (option_map passed old.clock) (running opened mid no_counts mid_log) old.given old.waits old.asked)
+      (node (fill_bytes 16 old.stream).1 (option_map passed old.clock) (running opened mid (started_counts outs) mid_log) old.given old.waits old.asked)
       (running end now counts log') new.given new.waits new.asked
 
 -- the run of a plan, to its end or as far as it came

@@ -8,19 +8,20 @@ ghost use Rattle.node_words.specs.Plans.{planned};
 ghost use Rattle.node_run.specs.Faults.{faults};
 ghost use Rattle.node_run.specs.Logs.{sunk, Grows};
 ghost use Rattle.node_run.specs.Steps.{running, store_of, IsReady, NodeSteps, NodeStops};
-ghost use Rattle.node_top.specs.Runs.{config_of, of_opening, of_turn, of_serving, outside, RunBlames, RanTo, GivesAndServes, ServesShort};
+ghost use Rattle.node_top.specs.Runs.{config_of, of_opening, of_turn, of_serving, started_counts, outside, RunBlames, RanTo, GivesAndServes, ServesShort};
 
 use crate::exit::NodeExit;
 use block_source::next_block;
 use disk_core::Disk;
 use end_model::Config;
-use node_run::{Counts, NodeEnd, NodeFault, NodeStop, NodeUnopened, logs_grow, node_serve};
+use node_run::{
+    Counts, NodeEnd, NodeFault, NodeStop, NodeUnopened, OpenStop, logs_grow, node_serve,
+};
 use node_words::Plan;
 use port_events::{Outputs, TurnFault, give_all};
 use port_traits::{Clock, Ether, Link, Sink, Uplink};
 use rand_core::Rng;
 use std::alloc::Global;
-use stored_ends::OpenStop;
 
 /// The configuration that a plan asks for.
 fn config_of(plan: Plan) -> Config
@@ -82,6 +83,18 @@ fn of_serving(fault: NodeFault) -> NodeExit
     }
 }
 
+/// What a node counts whose start gives this, before it opens a tunnel or makes a turn.
+fn started_counts(outs: &Outputs) -> Counts
+    ensures { result ≡ started_counts outs.now }
+{
+    let none = Counts {
+        turns: 0,
+        taken: 0,
+        sent: 0,
+    };
+    none.with_sent(outs.as_slice())
+}
+
 /// What the start of an end gives goes out, and then the node makes its turns.
 fn give_and_serve<L: Link, E: Ether, U: Uplink, D: Disk, C: Clock, R: Rng, O: Sink>(
     alloc: Global,
@@ -117,8 +130,8 @@ fn give_and_serve<L: Link, E: Ether, U: Uplink, D: Disk, C: Clock, R: Rng, O: Si
     }
 }
 
-/// Runs a plan: reads the clock once, opens the end of the plan over the disk, with the generator's first block, lets what its start gives go
-/// out, opens a tunnel where the plan says so, and makes the plan's turns. It gives the counts of these.
+/// Runs a plan: reads the clock once, opens the end of the plan over the disk, at that moment and with the generator's first block, lets
+/// what its start gives go out, opens a tunnel where the plan says so, and makes the plan's turns. It gives the counts of all that.
 pub(crate) fn run<L: Link, E: Ether, U: Uplink, D: Disk, C: Clock, R: Rng, O: Sink>(
     alloc: Global,
     plan: Plan,
@@ -135,20 +148,16 @@ pub(crate) fn run<L: Link, E: Ether, U: Uplink, D: Disk, C: Clock, R: Rng, O: Si
     ensures cause { RunBlames (faults (D.faults disk.old) (L.faults link.old) (E.faults ether.old) (U.faults up.old)) (faults (D.faults disk.new) (L.faults link.new) (E.faults ether.new) (U.faults up.new)) result }
 {
     logs_grow();
-    let _moment = clock.now();
-    let key = next_block(rng);
+    let moment = clock.now();
+    let block = next_block(rng);
     let lac = plan.lac;
     let turns = plan.turns;
     let opens = plan.opens;
-    match NodeEnd::open(alloc, disk, log, lac, config_of(plan), key) {
+    match NodeEnd::open(alloc, disk, log, lac, config_of(plan), moment, block) {
         Err(why) => Err(of_opening(why)),
         Ok((end, outs)) => {
             let mut end = end;
-            let mut counts = Counts {
-                turns: 0,
-                taken: 0,
-                sent: 0,
-            };
+            let mut counts = started_counts(&outs);
             match give_and_serve(
                 alloc,
                 &mut end,

@@ -86,18 +86,19 @@ fn run_words<L: Link, E: Ether, U: Uplink, D: Disk, C: Clock, R: Rng, K: Sink, O
     }
 }
 
-/// Runs the node that the words ask for, of which the first is `node`: over a link, an Ethernet port and an uplink, the disk of its store, a
-/// clock, and a generator of random bytes; an operator reads its log. With `--help` or `--version` among the words behind the first its help,
-/// or this version, is written, and nothing else. Words that are no plan have how the command is used written.
+/// Runs the node that the words ask for, of which the first is `node`: over a link, an Ethernet port and an uplink, the disk of its store,
+/// a clock, and a generator of random bytes; an operator reads its log. With `--help` or `--version` among the words behind the first its
+/// help, or this version, is written, and nothing else. Words that are no plan have how the command is used written.
 ///
-/// A node reads the clock once and opens its end over the disk, with the generator's first 16 bytes for the key of a LAC's cookies; what the
-/// start gives goes out. It opens a tunnel where `--open` says so, and makes so many turns. At their end it writes how many turns it made, how
-/// many datagrams, frames and network frames it took and how many datagrams it sent, in three lines. Where it ends early it writes a line that
-/// tells why; each fault is told only where the count of that object rose. How far it came is said too: whether its end was opened, which
-/// steps were made and are out whole, and of the last one how much went out and at which output a port failed, or that it wasn't made, and why.
+/// A node reads the clock once and opens its end over the disk, at that moment and with the generator's first 16 bytes; what the start
+/// gives goes out. It opens a tunnel where `--open` says so, and makes so many turns. At their end it writes how many turns it made, how
+/// many datagrams, frames and network frames it took and how many datagrams it sent, from the start on, in three lines. Where it ends early
+/// it writes a line that tells why; each fault is told only where the count of that object rose. How far it came is said too: whether its
+/// end was opened, which steps were made and are out whole, and of the last one how much went out and at which output a port failed, or
+/// that it wasn't made, and why.
 ///
-/// The log has a line for each tunnel and each call that comes up or ends, and, last, why the node ended early. It has no say in what the node
-/// does or answers, also where it fails or memory is wanting for its lines.
+/// The log has a line for each tunnel and each call that comes up or ends, and, last, why the node ended early. It has no say in what the
+/// node does or answers, also where it fails or memory is wanting for its lines.
 pub fn node_top<L: Link, E: Ether, U: Uplink, D: Disk, C: Clock, R: Rng, K: Sink, O: Sink>(
     alloc: Global,
     words: &[String],

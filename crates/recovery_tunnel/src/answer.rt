@@ -252,4 +252,15 @@ impl Answer {
     {
         self.connection.channel.next_unsent()
     }
+
+    /// A copy, with as much room in its channel: a step is planned on it, and where memory is wanting, nothing has changed.
+    pub fn copy(&self, alloc: Global) -> Result<Answer, NoMemory>
+        ensures { IfOk result (λ copy. copy ≡ self.now) }
+    {
+        let connection = self.connection.copy(alloc)?;
+        Ok(Answer {
+            connection,
+            suggested: self.suggested,
+        })
+    }
 }

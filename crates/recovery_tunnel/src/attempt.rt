@@ -269,4 +269,12 @@ impl Attempt {
     {
         self.connection.channel.next_unsent()
     }
+
+    /// A copy, with as much room in its channel: a step is planned on it, and where memory is wanting, nothing has changed.
+    pub fn copy(&self, alloc: Global) -> Result<Attempt, NoMemory>
+        ensures { IfOk result (λ copy. copy ≡ self.now) }
+    {
+        let connection = self.connection.copy(alloc)?;
+        Ok(Attempt { connection })
+    }
 }

@@ -168,6 +168,24 @@ impl ControlConnection {
         Ok(())
     }
 
+    /// A copy, with as much room in its channel.
+    pub(crate) fn copy(&self, alloc: Global) -> Result<ControlConnection, NoMemory>
+        ensures { IfOk result (λ copy. copy ≡ self.now) }
+    {
+        let challenge = copy_challenge(alloc, &self.challenge)?;
+        let channel = self.channel.copy(alloc)?;
+        Ok(ControlConnection {
+            local: self.local,
+            remote: self.remote,
+            draw: self.draw,
+            challenge,
+            channel,
+            since: self.since,
+            reset: self.reset,
+            closed: self.closed,
+        })
+    }
+
     /// Whether the channel has failed.
     fn has_failed(&self, now: u64) -> bool
         ensures { result ≡ is_failure (answer_to_tick self.now.channel now) }

@@ -4,6 +4,8 @@ ghost use Rattle.std.specs.Prelude.{◌≡◌, Some, IfOk, IfSome, OnOk, OnErr, 
 ghost use Rattle.send_window.specs.Window.{next_unsent, Holds, HoldsRepeated};
 ghost use Rattle.send_window.specs.Outbox.{letter_at};
 ghost use Rattle.recv_window.specs.Window.{on_wire};
+ghost use Rattle.control_channel.specs.Numbers.{due_of};
+ghost use Rattle.control_channel.specs.Parts.{numbers_of};
 ghost use Rattle.control_channel.specs.Channel.{class_told, next_to_go, answer_to_tick, nr_of};
 ghost use Rattle.recovery_tunnel.specs.Connections.{told_by_refusal, told_by_time};
 ghost use Rattle.recovery_tunnel.specs.Either.{connection_of, channel_of, is_reset, reads_nr, takes_letter, lets_go, ticked, told_by, after_message, after_refusal, is_over_by};
@@ -36,6 +38,16 @@ impl Recovering {
         }
     }
 
+    /// A copy, with as much room in its channel: a step is planned on it, and where memory is wanting, nothing has changed.
+    pub fn copy(&self, alloc: Global) -> Result<Recovering, NoMemory>
+        ensures { IfOk result (λ copy. copy ≡ self.now) }
+    {
+        match self {
+            Recovering::ByAttempt(attempt) => Ok(Recovering::ByAttempt(attempt.copy(alloc)?)),
+            Recovering::ByAnswer(answer) => Ok(Recovering::ByAnswer(answer.copy(alloc)?)),
+        }
+    }
+
     /// The tunnel id that this end assigned.
     pub fn local(&self) -> u16
         ensures { result ≡ (connection_of self.now).local }
@@ -62,6 +74,43 @@ impl Recovering {
         ensures { result ≡ is_reset self.now }
     {
         self.connection().reset.is_some()
+    }
+
+    /// The moment at which it began, in milliseconds.
+    pub fn since(&self) -> u64
+        ensures { result ≡ (connection_of self.now).since }
+    {
+        self.connection().since
+    }
+
+    /// The moment at which it told to reset its tunnel, in milliseconds, where it has.
+    pub fn reset_at(&self) -> Option<u64>
+        ensures { result ≡ (connection_of self.now).reset }
+    {
+        self.connection().reset
+    }
+
+    /// The moment from which on its channel repeats a letter or has failed, in milliseconds; None where nothing is outstanding.
+    pub fn repetition_due(&self) -> Option<u64>
+        ensures { result ≡ due_of (numbers_of (connection_of self.now).channel) }
+    {
+        self.connection().channel.numbers().due()
+    }
+
+    /// How many letters are on the wire that aren't acknowledged.
+    pub fn outstanding(&self) -> usize
+        ensures { result ≡ (connection_of self.now).channel.outbox.window.outstanding }
+    {
+        self.connection().channel.numbers().outstanding()
+    }
+
+    /// What `tick` would answer at a moment.
+    pub fn answer_to_tick(&self, now: u64) -> Tick
+        ensures answer { result ≡ answer_to_tick (channel_of self.now) now }
+        ensures there { HoldsRepeated (channel_of self.now).outbox.window result }
+    {
+        let mut numbers = self.connection().channel.numbers();
+        numbers.tick(now)
     }
 
     /// A message of the other end, as `Channel::receive`. Where it is the next one, `on_message` or `on_fault` hears it, and `take`

@@ -37,13 +37,40 @@ O\x01\x02\0\0\0\x40\0\0\0\0\0\0\0\0\0\0\0\0\0\0\0\0\0\0\0\0\0\0\0\0\0\
 O\x04\0\x01\0\x01\0\x02\0\0\0\0\0\0\0\0\0\0\0\0\0\0\0\0\0\0\0\0\0\0\0\0\
 C";
 
-/// The journal of the LAC 8 that started again over its four records: that its tunnel 1 went stands behind them.
-const STARTED_FILE: &[u8; 193] = b"OL2TPCKP1\x01\x08\0\0\0\0\0\0\0\0\0\0\0\0\0\0\0\0\0\0\0\0C\
+/// The journal of the LAC 8 that started again over its four records: it has its tunnel 1 again, and to ask for its recovery it draws a
+/// tunnel id, whose ceiling is 128 from the id 65 on, and a draw number, whose ceiling is 64 from the first one on.
+const STARTED_FILE: &[u8; 225] = b"OL2TPCKP1\x01\x08\0\0\0\0\0\0\0\0\0\0\0\0\0\0\0\0\0\0\0\0C\
 O\x01\x01\0\0\0\x40\0\0\0\0\0\0\0\0\0\0\0\0\0\0\0\0\0\0\0\0\0\0\0\0\0\
 O\x01\x02\0\0\0\x40\0\0\0\0\0\0\0\0\0\0\0\0\0\0\0\0\0\0\0\0\0\0\0\0\0\
 O\x02\0\x01\0\x01\x0a\0\0\x03\0\x08\0\x03\0\0\0\0\0\0\0\0\0\0\0\0\0\0\0\0\0\0\
 O\x04\0\x02\0\x01\0\x01\xff\xff\0\0\0\x50\0\0\0\0\0\0\0\0\0\0\0\0\0\0\0\0\0\0\
-O\x03\0\x01\0\0\0\0\0\0\0\0\0\0\0\0\0\0\0\0\0\0\0\0\0\0\0\0\0\0\0\0\
+O\x01\x01\0\0\0\x80\0\0\0\0\0\0\0\0\0\0\0\0\0\0\0\0\0\0\0\0\0\0\0\0\0\
+O\x01\x03\0\0\0\x40\0\0\0\0\0\0\0\0\0\0\0\0\0\0\0\0\0\0\0\0\0\0\0\0\0\
+C";
+
+/// The same behind another crash and another start: each start draws above the ceilings, so both rise again.
+const TWICE_FILE: &[u8; 289] = b"OL2TPCKP1\x01\x08\0\0\0\0\0\0\0\0\0\0\0\0\0\0\0\0\0\0\0\0C\
+O\x01\x01\0\0\0\x40\0\0\0\0\0\0\0\0\0\0\0\0\0\0\0\0\0\0\0\0\0\0\0\0\0\
+O\x01\x02\0\0\0\x40\0\0\0\0\0\0\0\0\0\0\0\0\0\0\0\0\0\0\0\0\0\0\0\0\0\
+O\x02\0\x01\0\x01\x0a\0\0\x03\0\x08\0\x03\0\0\0\0\0\0\0\0\0\0\0\0\0\0\0\0\0\0\
+O\x04\0\x02\0\x01\0\x01\xff\xff\0\0\0\x50\0\0\0\0\0\0\0\0\0\0\0\0\0\0\0\0\0\0\
+O\x01\x01\0\0\0\x80\0\0\0\0\0\0\0\0\0\0\0\0\0\0\0\0\0\0\0\0\0\0\0\0\0\
+O\x01\x03\0\0\0\x40\0\0\0\0\0\0\0\0\0\0\0\0\0\0\0\0\0\0\0\0\0\0\0\0\0\
+O\x01\x01\0\0\0\xc0\0\0\0\0\0\0\0\0\0\0\0\0\0\0\0\0\0\0\0\0\0\0\0\0\0\
+O\x01\x03\0\0\0\x80\0\0\0\0\0\0\0\0\0\0\0\0\0\0\0\0\0\0\0\0\0\0\0\0\0\
+C";
+
+/// What stands in the journal of the LNS 3 behind its four records once it answered the LAC 8 that started again: the ceiling of its draw
+/// numbers, and the mark of its tunnel 1, which is the LAC's draw number 1. Its tunnel id is below the ceiling that there is.
+const ANSWERED: &[u8; 65] = b"\
+O\x01\x03\0\0\0\x40\0\0\0\0\0\0\0\0\0\0\0\0\0\0\0\0\0\0\0\0\0\0\0\0\0\
+O\x06\0\x01\0\0\0\x01\0\0\0\0\0\0\0\0\0\0\0\0\0\0\0\0\0\0\0\0\0\0\0\0\
+C";
+
+/// What stands in the journal of that LAC behind what its start left, once it took the answer: the mark of its tunnel 1, which is the LNS's
+/// draw number 1.
+const TAKEN: &[u8; 33] = b"\
+O\x06\0\x01\0\0\0\x01\0\0\0\0\0\0\0\0\0\0\0\0\0\0\0\0\0\0\0\0\0\0\0\0\
 C";
 
 /// A LAC and an LNS, and the messages with which a call comes up between them.
@@ -164,6 +191,17 @@ fn talk_leaves(alloc: Global, behind: &[u8], node: u8, file: &[u8]) -> bool {
     }
 }
 
+/// The disk of a node has this file without its end, and goes on with these bytes, behind a call that came up and these lines.
+fn talk_goes_on(alloc: Global, lines: &[u8], node: u8, file: &[u8], behind: &[u8]) -> bool {
+    let Some(world) = talk(alloc, b"", lines) else {
+        return false;
+    };
+    match (world.file(node), file.split_last()) {
+        (Some(found), Some((_, front))) => found.strip_prefix(front) == Some(behind),
+        _ => false,
+    }
+}
+
 /// A node stops at this call of this commit as a call comes up.
 fn stops(alloc: Global, stop: (u8, u8, u8, bool), behind: &[u8]) -> Option<Box<World>> {
     let (node, commit, call, kept) = stop;
@@ -193,13 +231,14 @@ fn started_records(alloc: Global, stop: (u8, u8, u8, bool)) -> Option<u32> {
 }
 
 /// A node that stops there has the records before, and the one that it stopped at where that is kept; and so it is behind its start, with
-/// one more where a tunnel went.
+/// two more where it has its tunnel again: of the 48 stops these are the ones from the tunnel's record on. The recovery that it asks for
+/// there draws a tunnel id and a draw number, and both are above their ceilings.
 fn stops_whole(alloc: Global, stop: (u8, u8, u8, bool), file: &[u8; 161], up: u32) -> bool {
     let (_, commit, _, kept) = stop;
     let records = u32::from(commit).saturating_sub(u32::from(!kept));
-    let gone = u32::from(records >= up);
+    let drawn = if records >= up { 2 } else { 0 };
     stop_leaves(alloc, stop, file, records)
-        && started_records(alloc, stop) == Some(records.saturating_add(gone))
+        && started_records(alloc, stop) == Some(records.saturating_add(drawn))
 }
 
 /// The schedule in which the LAC 1 stops at its fourth commit, where its call comes up.
@@ -244,7 +283,42 @@ fn a_call_that_comes_up_is_on_both_disks(rt: HostRuntime) -> Result<(), Fail> {
             alloc,
             b"crash 8\nstart 8\ncrash 8\nstart 8\n",
             8,
-            STARTED_FILE
+            TWICE_FILE
+        )
+    );
+    Ok(())
+}
+
+#[test]
+fn a_recovery_leaves_its_marks_at_both_ends(rt: HostRuntime) -> Result<(), Fail> {
+    let alloc = rt.alloc();
+    // The packets 10 to 12 are the SCCRQ, the SCCRP and the SCCCN of the recovery; an end that waits for an answer has no mark
+    assert!(rt;
+        talk_goes_on(
+            alloc,
+            b"crash 8\nstart 8\ndeliver 10\n",
+            3,
+            LNS_FILE,
+            ANSWERED
+        )
+    );
+    assert!(rt; talk_leaves(alloc, b"crash 8\nstart 8\ndeliver 10\n", 8, STARTED_FILE));
+    assert!(rt;
+        talk_goes_on(
+            alloc,
+            b"crash 8\nstart 8\ndeliver 10\ndeliver 11\n",
+            8,
+            STARTED_FILE,
+            TAKEN
+        )
+    );
+    assert!(rt;
+        talk_goes_on(
+            alloc,
+            b"crash 8\nstart 8\ndeliver 10\ndeliver 11\ndeliver 12\n",
+            3,
+            LNS_FILE,
+            ANSWERED
         )
     );
     Ok(())

@@ -1,11 +1,11 @@
 -- A line that spells what was sent is read as that.
-use Rattle.std.proofs.Common.{◌≡◌, ℕ, ◌+◌, ◌^◌, ◌<◌, ◌≤◌, true, List, [], ◌∷◌, ◌++◌, length, Option, Some, None, Result, Ok, Err, refl, sym, ap, subst, ◌∙◌, append_assoc, arith}
+use Rattle.std.proofs.Common.{◌≡◌, ℕ, ◌+◌, ◌≤◌, true, List, [], ◌∷◌, ◌++◌, length, Some, refl, sym, ap, subst, ◌∙◌, append_assoc, arith}
 use Rattle.std.specs.Prelude.{codes}
 use Rattle.std.specs.Fmt.{decimal}
 use Rattle.std.specs.Str.{bytes_eq}
 use Rattle.std.proofs.lemmas.Bool.{le-leb}
 use Rattle.std.proofs.lemmas.Slice.Eq.{bytes_eq-Decides}
-use Rattle.hex.specs.Hex.{encode_lower, lower_digits, IsBytes}
+use Rattle.hex.specs.Hex.{encode_lower, lower_digits}
 use Rattle.hex.proofs.HexLemmas.{decode_of-encode_lower}
 use Rattle.schedule_text.specs.Grammar.{IsNode}
 use Rattle.schedule_text.specs.Reading.{cut, text_lines, node_of, bytes_of}
@@ -16,7 +16,7 @@ use Rattle.schedule_text.proofs.TextLaws.{fed_line}
 use Rattle.report_reading.specs.declared.entry.Entry.{Entry}
 use Rattle.report_reading.specs.declared.entry.Entry.TheVariants.{Datagram, Frame, Other}
 use Rattle.report_reading.specs.Grammar.{sent_text, IsCount, IsPayload, FitsSent}
-use Rattle.report_reading.specs.Reading.{count_of, payload_of, packet_words_of, send_of, frame_of, told_of, first_words_of, numbered_line_of, is_ending, or_other, line_of, put_front, entries_from}
+use Rattle.report_reading.specs.Reading.{count_of, payload_of, packet_words_of, send_of, frame_of, told_of, first_words_of, numbered_line_of, line_of, put_front, entries_from}
 use Rattle.report_reading.proofs.Entries.{next_is}
 
 -- ---- words

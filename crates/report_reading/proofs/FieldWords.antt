@@ -1,5 +1,5 @@
 -- Fields and the words that are left.
-use Rattle.std.proofs.Common.{◌≡◌, ℕ, ◌<◌, false, List, [], ◌∷◌, length, Option, None, refl, arith}
+use Rattle.std.proofs.Common.{◌≡◌, ℕ, ◌<◌, false, List, [], ◌∷◌, length, None, refl, arith}
 use Rattle.schedule_text.specs.Reading.{cut}
 use Rattle.report_reading.specs.declared.fields.Field.{Field}
 use Rattle.report_reading.specs.Fields.{fits}

@@ -1,12 +1,12 @@
 -- A line that is read as what was sent is spelled so.
-use Rattle.std.proofs.Common.{◌≡◌, ◌⊎◌, ℕ, ◌+◌, ◌≤◌, ◌&&◌, Bool, true, false, cond, leb, List, [], ◌∷◌, ◌++◌, length, Option, Some, None, Result, Ok, Err, refl, sym, ap, subst, ◌∙◌, append_assoc, arith, inl, inr}
+use Rattle.std.proofs.Common.{◌≡◌, ◌⊎◌, ℕ, ◌&&◌, Bool, true, false, cond, leb, List, ◌∷◌, ◌++◌, length, Option, Some, None, Result, Ok, Err, refl, sym, ap, subst, ◌∙◌, arith, inl, inr}
 use Rattle.std.specs.Prelude.{codes}
 use Rattle.std.specs.Fmt.{decimal}
 use Rattle.std.specs.Str.{bytes_eq}
 use Rattle.std.proofs.lemmas.Bool.{leb-true, and_parts}
 use Rattle.std.proofs.lemmas.Option.{none-some, same_Some}
 use Rattle.std.proofs.lemmas.Slice.Eq.{bytes_eq-Decides}
-use Rattle.hex.specs.Hex.{decode_of, encode_lower, IsBytes}
+use Rattle.hex.specs.Hex.{decode_of, encode_lower}
 use Rattle.hex.specs.declared.error.FromHexError.{FromHexError}
 use Rattle.hex.proofs.HexLemmas.{decode_of-ok}
 use Rattle.schedule_text.specs.Grammar.{IsNode}
@@ -15,7 +15,7 @@ use Rattle.schedule_text.proofs.Numbers.{number_found}
 use Rattle.schedule_text.proofs.LineLaws.{cut_found}
 use Rattle.report_reading.specs.declared.entry.Entry.{Entry}
 use Rattle.report_reading.specs.declared.entry.Entry.TheVariants.{Datagram, Frame, Other}
-use Rattle.report_reading.specs.Grammar.{sent_text, IsCount, IsPayload, FitsSent, IsSpelled}
+use Rattle.report_reading.specs.Grammar.{IsCount, IsPayload, IsSpelled}
 use Rattle.report_reading.specs.Reading.{count_of, payload_of, packet_words_of, send_of, frame_of, tells_other, told_of, first_words_of, numbered_line_of, is_ending, or_other, line_of}
 use Rattle.report_reading.proofs.Again.{regroup_send, regroup_frame}
 

@@ -1,5 +1,5 @@
 -- Lines that tell nothing of what was sent: of each the words alone are looked at, as what they are.
-use Rattle.std.specs.Prelude.{ℕ, ◌%◌, Bool, true, false, not, ◌&&◌, ◌||◌, nat_le, ◌==◌, List, [], ◌∷◌, length, Option, Some, None, is_some}
+use Rattle.std.specs.Prelude.{ℕ, ◌%◌, Bool, false, not, ◌&&◌, ◌||◌, nat_le, ◌==◌, List, [], ◌∷◌, length, Option, Some, None, is_some}
 use Rattle.std.specs.List.{list_all}
 use Rattle.schedule_text.specs.Reading.{cut, number_of}
 use Rattle.report_reading.specs.declared.fields.Field.{Field}

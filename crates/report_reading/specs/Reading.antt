@@ -103,12 +103,19 @@ unfit_of text =
     behind (codes "unfit line ") text >>= λ more. cut 58 more >>= λ first. behind (codes " ") first.1 >>= λ why.
     count_of first.0 >>= λ line. if is_word why then Some line else None
 
--- a packet that is too old
-unfoldable pub half_space_of : List ℕ → Option ℕ
-half_space_of text =
-    behind (codes "half space line ") text >>= λ more. cut 58 more >>= λ first. behind (codes " number ") first.1 >>= λ others.
-    cut 44 others >>= λ second. behind (codes " at ") second.1 >>= λ count.
+-- a packet that is too old: the line, and behind two words what the packet tells and what its tunnel counts
+unfoldable pub too_old_of : List ℕ → List ℕ → List ℕ → List ℕ → Option ℕ
+too_old_of front told counted text =
+    behind front text >>= λ more. cut 58 more >>= λ first. behind told first.1 >>= λ others.
+    cut 44 others >>= λ second. behind counted second.1 >>= λ count.
     amount_of second.0 >>= λ number. amount_of count >>= λ n. count_of first.0
+
+-- by its numbers, and by its epoch
+abbrev pub half_space_of : List ℕ → Option ℕ
+half_space_of text = too_old_of (codes "half space line ") (codes " number ") (codes " at ") text
+
+abbrev pub stale_of : List ℕ → Option ℕ
+stale_of text = too_old_of (codes "stale line ") (codes " packet epoch ") (codes " own epoch ") text
 
 unfoldable pub numbered_of : List ℕ → List ℕ → Option ℕ
 numbered_of front text = behind front text >>= λ word. count_of word
@@ -116,7 +123,7 @@ numbered_of front text = behind front text >>= λ word. count_of word
 -- why a run wasn't done to its end
 unfoldable pub is_exit : List ℕ → Bool
 is_exit text =
-    is_some (unfit_of text) || is_some (half_space_of text) || is_some (numbered_of (codes "bad line ") text)
+    is_some (unfit_of text) || is_some (half_space_of text) || is_some (stale_of text) || is_some (numbered_of (codes "bad line ") text)
     || is_some (numbered_of (codes "too long: ") text) || is_some (numbered_of (codes "store full: ") text) || bytes_eq text (codes "read fault")
 
 unfoldable pub is_ending : List ℕ → Bool

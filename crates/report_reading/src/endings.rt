@@ -1,7 +1,7 @@
 //! What a report ends with: tables of what each node holds, or why the run wasn't done to its end.
 
 ghost use Rattle.std.specs.Prelude.{◌≡◌};
-ghost use Rattle.report_reading.specs.Reading.{is_held, is_state, is_table, unfit_of, half_space_of, numbered_of, is_exit, is_ending};
+ghost use Rattle.report_reading.specs.Reading.{is_held, is_state, is_table, unfit_of, too_old_of, half_space_of, stale_of, numbered_of, is_exit, is_ending};
 
 use crate::fields::{Field, fits, is_word};
 use crate::parts::{behind, read_amount, read_count, split_once};
@@ -76,19 +76,34 @@ fn read_unfit(text: &[u8]) -> Option<u32>
     if is_word(why) { Some(line) } else { None }
 }
 
-/// The number of the line whose packet is too old, by `half space line L: number N, at A`.
-#[tactic(auto, unfolding(crate::specs::Reading::half_space_of))]
-fn read_half_space(text: &[u8]) -> Option<u32>
-    ensures { result ≡ half_space_of text.now }
+/// The number of the line whose packet is too old, behind a front. Behind two words more stand what the packet tells, and what its tunnel
+/// counts.
+#[tactic(auto, unfolding(crate::specs::Reading::too_old_of))]
+fn read_too_old(text: &[u8], front: &[u8], told: &[u8], counted: &[u8]) -> Option<u32>
+    ensures { result ≡ too_old_of front.now told.now counted.now text.now }
 {
-    let more = behind(text, b"half space line ")?;
+    let more = behind(text, front)?;
     let (line, others) = split_once(more, b':')?;
-    let others = behind(others, b" number ")?;
+    let others = behind(others, told)?;
     let (number, others) = split_once(others, b',')?;
-    let count = behind(others, b" at ")?;
+    let count = behind(others, counted)?;
     let _number = read_amount(number)?;
     let _count = read_amount(count)?;
     read_count(line)
+}
+
+/// The number of the line whose packet has outlived half of the numbers, by `half space line L: number N, at A`.
+fn read_half_space(text: &[u8]) -> Option<u32>
+    ensures { result ≡ half_space_of text.now }
+{
+    read_too_old(text, b"half space line ", b" number ", b" at ")
+}
+
+/// The number of the line whose packet was sent before its tunnel's last reset, by `stale line L: packet epoch P, own epoch O`.
+fn read_stale(text: &[u8]) -> Option<u32>
+    ensures { result ≡ stale_of text.now }
+{
+    read_too_old(text, b"stale line ", b" packet epoch ", b" own epoch ")
 }
 
 /// The number behind a front.
@@ -107,6 +122,7 @@ fn is_exit(text: &[u8]) -> bool
 {
     read_unfit(text).is_some()
         || read_half_space(text).is_some()
+        || read_stale(text).is_some()
         || read_numbered(text, b"bad line ").is_some()
         || read_numbered(text, b"too long: ").is_some()
         || read_numbered(text, b"store full: ").is_some()

@@ -1,4 +1,4 @@
 mod HexText
-mod HalfSpaceText
+mod NumberedText
 mod TunnelText
 mod StoreText

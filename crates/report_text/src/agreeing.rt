@@ -2,10 +2,11 @@
 
 ghost use Rattle.std.specs.Prelude.{◌≡◌, count_by, IfOk};
 ghost use Rattle.id_table.specs.Ids.{at, ids_of};
+ghost use Rattle.end_model.specs.Tunnels.{is_current};
 ghost use Rattle.world_model.specs.Run.{agree, is_session, session_count};
 
 use call_fsm::CallState;
-use end_model::{Call, Control, node_of};
+use end_model::{Call, Control, Mode, node_of};
 use id_table::Table;
 use std::alloc::Global;
 use tunnel_fsm::TunnelState;
@@ -22,6 +23,13 @@ pub fn agree(node: u32, tunnel: &Control, partner: &Control) -> bool
         && u32::from(node_of(partner.peer)) == node
         && partner.channel.taken_count() == tunnel.channel.sent_count()
         && tunnel.channel.taken_count() == partner.channel.sent_count()
+}
+
+/// Whether the channel of a tunnel in this mode carries messages.
+pub fn carries(mode: Mode) -> bool
+    ensures { result ≡ is_current mode }
+{
+    matches!(mode, Mode::Current)
 }
 
 /// Whether a call is there and is up.

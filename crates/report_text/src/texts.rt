@@ -5,9 +5,9 @@ ghost use Rattle.std.specs.Fmt.{decimal};
 ghost use Rattle.hex.specs.Hex.{encode_lower};
 ghost use Rattle.end_names.specs.Names.{node_of};
 ghost use Rattle.world_model.specs.Texts.{◌&◌, send_text, side_word, up_text, held_text, gone_text, frame_text, farewell_text, drop_text, cause_text, stopped_text};
-ghost use Rattle.world_model.specs.Run.{tunnel_text, call_text, agree_text, down_text, unfit_text, half_space_text, store_full_text, refusal_text};
+ghost use Rattle.world_model.specs.Run.{mode_word, tunnel_text, call_text, agree_text, down_text, unfit_text, half_space_text, stale_text, store_full_text, refusal_text};
 
-use end_model::{Call, Control, node_of};
+use end_model::{Call, Control, Mode, node_of};
 use itoa::Buffer;
 use wire_base::{Bytes, Cause, NoMemory, Side, Why};
 use world_model::Refusal;
@@ -235,14 +235,34 @@ fn push_tunnel_ids(out: &mut Bytes, node: u32, tunnel: &Control) -> Result<(), N
     push_count(out, u64::from(tunnel.remote))
 }
 
-/// A tunnel at the end of a run. No tunnel outlives a crash, so each is in epoch 0, current, and complete.
+/// What a tunnel's control channel does, in ASCII.
+fn mode_word(mode: Mode) -> &'static [u8]
+    ensures { result.now ≡ mode_word mode }
+{
+    match mode {
+        Mode::Current => b"current",
+        Mode::Frozen => b"frozen",
+        Mode::Restored => b"restored",
+    }
+}
+
+/// A tunnel at the end of a run, with the epoch that it is in, and whether it is current, frozen or restored. No end asks for its calls
+/// after a reset, so each is complete.
 #[tactic(auto, unfolding(world_model::specs::Run::tunnel_text))]
-pub fn push_tunnel(out: &mut Bytes, node: u32, tunnel: &Control) -> Result<(), NoMemory>
-    ensures { OnOk result (out.new ≡ out.old ++ tunnel_text node tunnel.now) }
+pub fn push_tunnel(
+    out: &mut Bytes,
+    node: u32,
+    tunnel: &Control,
+    epoch: u64,
+    mode: Mode,
+) -> Result<(), NoMemory>
+    ensures { OnOk result (out.new ≡ out.old ++ tunnel_text node tunnel.now epoch mode) }
 {
     push_tunnel_ids(out, node, tunnel)?;
     push_word(out, tunnel.state.word())?;
-    push_word(out, b"0 current complete")?;
+    push_count(out, epoch)?;
+    push_word(out, mode_word(mode))?;
+    push_word(out, b"complete")?;
     out.push_slice(b"\n")
 }
 
@@ -311,6 +331,17 @@ fn push_half_space(out: &mut Bytes, line: u64, number: u64, count: u64) -> Resul
     out.push_slice(b"\n")
 }
 
+/// A packet that was sent before the last reset of the tunnel that it is for: the line, and the epochs of both.
+#[tactic(auto, unfolding(world_model::specs::Run::stale_text))]
+fn push_stale(out: &mut Bytes, line: u64, packet_epoch: u64, own_epoch: u64) -> Result<(), NoMemory>
+    ensures { OnOk result (out.new ≡ out.old ++ stale_text line packet_epoch own_epoch) }
+{
+    push_numbered(out, b"stale line ", line)?;
+    push_numbered(out, b": packet epoch ", packet_epoch)?;
+    push_numbered(out, b", own epoch ", own_epoch)?;
+    out.push_slice(b"\n")
+}
+
 /// A node's checkpoint that has no room for the records of a step, and how many it has.
 #[tactic(auto, unfolding(world_model::specs::Run::store_full_text))]
 fn push_store_full(out: &mut Bytes, records: u32) -> Result<(), NoMemory>
@@ -328,6 +359,10 @@ pub fn push_refusal(out: &mut Bytes, line: u64, refusal: Refusal) -> Result<(), 
     match refusal {
         Refusal::Unfit { why } => push_unfit(out, line, why),
         Refusal::HalfSpace { number, count } => push_half_space(out, line, number, count),
+        Refusal::Stale {
+            packet_epoch,
+            own_epoch,
+        } => push_stale(out, line, packet_epoch, own_epoch),
         Refusal::StoreFull { records } => push_store_full(out, records),
     }
 }

@@ -1,7 +1,8 @@
 -- A node asks for each of its calls once, in every run.
-use Rattle.std.proofs.Common.{◌≡◌, ⊎_elim, ℕ, List, [], ◌∷◌, ◌++◌, append_assoc, refl, sym, ap, ◌∙◌, subst, append-nil, Option, Some, None, arith, Bool}
+use Rattle.std.proofs.Common.{◌≡◌, ⊎_elim, ℕ, ◌+◌, List, [], ◌∷◌, ◌++◌, append_assoc, refl, sym, ap, ◌∙◌, subst, append-nil, Option, Some, None, arith, Bool}
 use Rattle.std.proofs.lemmas.Option.{none-some}
 use mathlib.Core.Path.{fun_ext}
+use Rattle.std.specs.List.{AllByRecursion}
 use Rattle.id_table.specs.Ids.{at, put, at-none}
 use Rattle.id_table.specs.Order.{ascends-empty, at_new, at_other, same_or_not}
 use Rattle.schedule_text.specs.declared.line.Line.{Line}
@@ -20,15 +21,16 @@ use Rattle.world_model.specs.Run.{Run, after_line, run}
 use Rattle.step_laws.specs.Calm.{AreCalm}
 use Rattle.step_laws.specs.Steps.{AreKept, StepsAreChains}
 use Rattle.frame_laws.specs.Facts.{FactsOfRuns}
+use Rattle.frame_laws.specs.Unrecovered.{IsMain, MovesOfRuns}
 use Rattle.connection_laws.specs.Accounts.{no_account, account_from, account_of}
 use Rattle.connection_laws.proofs.Lines.{hand_keeps}
 use Rattle.request_laws.specs.Requests.{IsAskedAt, AskedInRuns, IsDrawnAtLac, DrawnAtLacsInRuns}
 use Rattle.request_laws.proofs.Asked.{Asking, IsCall, Known, Ordered, AskOk}
-use Rattle.request_laws.proofs.Deeds.{KeepsLetters, deeds, deeds_elsewhere, account_from-append}
+use Rattle.request_laws.proofs.Deeds.{KeepsLetters, deeds, mains_of, deeds_elsewhere, account_from-append}
 use Rattle.request_laws.proofs.Chains.{asks_on}
 use Rattle.request_laws.proofs.Lines.{told_line, LineDoes, Nothing, Declares, Steps, LineIs, ByItself, Holds, BehindHand, step_of, line_is}
 use Rattle.request_laws.proofs.Worlds.{step_done, step_follows, after_moves}
-use Rattle.request_laws.proofs.Runs.{Reached, reached_is, holds_in_runs}
+use Rattle.request_laws.proofs.Runs.{Reached, reached_is, holds_in_runs, AreMain, mains_reached}
 
 -- ---- accounts
 
@@ -138,7 +140,8 @@ module _ (r : Run) (ok : RunAsks r) where
       (same_or_not q n)))
 
   module _ (chains : StepsAreChains) (kept : (n : ℕ) (node : Node) → at r.world.nodes n ≡ Some node → AreKept node.end)
-      (number n : ℕ) (old : Node) (clock : ℕ) (access : Option Access) (checkpoint : Checkpoint) (ev : Event) (sender : Option Sender) (there : at r.world.nodes n ≡ Some old) where
+      (number n : ℕ) (old : Node) (clock : ℕ) (access : Option Access) (checkpoint : Checkpoint) (ev : Event) (sender : Option Sender)
+      (there : at r.world.nodes n ≡ Some old) (mains : AllByRecursion IsMain (step old.end clock (block_of n number) ev).moves) where
     -- what came, as it is read
     abbrev came : Event
     came = uncovered_event old.end.config.secret ev
@@ -162,12 +165,12 @@ module _ (r : Run) (ok : RunAsks r) where
     asks_then =
         let before : AskOk (account_of r.done n) old.end = subst (λ o. NodeAsks r.done n o) there (ok n) in
         let chain = (chains old.end (kept n old there) clock (block_of n number) came).chain in
-        let after = asks_on v number n old.end.role sender clock came (account_of r.done n) old.end s.end before s.moves chain in
+        let after = asks_on v number n old.end.role sender clock came (account_of r.done n) old.end s.end before s.moves mains chain in
         rw done_is (rw (known_more r.done (deeds v number n old.end.role sender s.moves) n) after)
 
     step_asks : RunAsks (after_line r x)
     step_asks q =
-        let f = step_follows r.world number n timed sender s in
+        let f = step_follows r.world number n timed sender s mains in
         ⊎_elim
         (λ (a : q ≡ n).
         let here : NodeAsks (r.done ++ x.done) n (at x.world.nodes n) = rw (f.is, f.end_is) asks_then in
@@ -177,44 +180,57 @@ module _ (r : Run) (ok : RunAsks r) where
         rw (f.others q other) (nodes_ask r.done (r.done ++ x.done) q (at r.world.nodes q) same (ok q)))
         (same_or_not q n)
 
+-- the moves of a step whose deeds are those of no recovery
+pub step_mains : (w : World) (number n : ℕ) (old : Node) (clock : ℕ) (access : Option Access) (checkpoint : Checkpoint) (ev : Event) (sender : Option Sender)
+    → AreMain (step_of w number n (record old { clock = clock; access = access; checkpoint = checkpoint }) ev sender).done
+    → AllByRecursion IsMain (step old.end clock (block_of n number) ev).moves
+step_mains w number n old clock access checkpoint ev sender mains =
+    let node : Node = record old { clock = clock; access = access; checkpoint = checkpoint } in
+    let s = step old.end clock (block_of n number) ev in
+    mains_of (after_moves w number n node sender s) number n old.end.role sender s.moves (subst AreMain (step_done w number n node sender s) mains)
+
 -- a frame that is handed up tells of no letter
 pub hand_known : (ds : List Deed) (line n : ℕ) (role : Role) (f : Held) (q : ℕ) → account_of (ds ++ hand_deed line n role f ∷ []) q ≡ account_of ds q
 unfolding account_from
 hand_known ds line n role f q =
     fun_ext (λ i. account_from-append ds (hand_deed line n role f ∷ []) q i no_account ∙ hand_keeps line n role f q i (account_of ds q i))
 
-module _ (chains : StepsAreChains) (facts : FactsOfRuns) where
+module _ (chains : StepsAreChains) (facts : FactsOfRuns) (moves : MovesOfRuns) where
   kept_now : (number : ℕ) (before : List Line) (r : Run) → Reached number before r → (n : ℕ) (node : Node) → at r.world.nodes n ≡ Some node → AreKept node.end
   kept_now number before r h n node there =
       let is = reached_is number before r h in
       ((facts before h.fit h.calm).nodes n node (subst (λ (q : Run). at q.world.nodes n ≡ Some node) (sym is) there)).kept
 
   does_asks : (number : ℕ) (r : Run) → ((n : ℕ) (node : Node) → at r.world.nodes n ≡ Some node → AreKept node.end) → RunAsks r → (x : Lined)
-      → LineDoes r.world number x → RunAsks (after_line r x)
-  does_asks number r kept ok x (Nothing es e) = quiet_asks r ok x es e
-  does_asks number r kept ok x (Declares n role lns secret hide none es e) = declared_asks r ok x number n role lns secret hide none es e
-  does_asks number r kept ok x (Steps n old clock access checkpoint ev sender es there from e) =
-      subst (λ y. RunAsks (after_line r y)) (sym e) (step_asks r ok chains kept number n old clock access checkpoint ev sender there)
+      → AreMain x.done → LineDoes r.world number x → RunAsks (after_line r x)
+  does_asks number r kept ok x mains (Nothing es e) = quiet_asks r ok x es e
+  does_asks number r kept ok x mains (Declares n role lns secret hide none es e) = declared_asks r ok x number n role lns secret hide none es e
+  does_asks number r kept ok x mains (Steps n old clock access checkpoint ev sender es there from e) =
+      subst (λ y. RunAsks (after_line r y)) (sym e)
+      (step_asks r ok chains kept number n old clock access checkpoint ev sender there
+      (step_mains r.world number n old clock access checkpoint ev sender (subst (λ (y : Lined). AreMain y.done) e mains)))
 
-  line_asks : (number : ℕ) (before : List Line) (r : Run) → Reached number before r → RunAsks r → (x : Lined) → LineIs r.world number x
+  line_asks : (number : ℕ) (before : List Line) (r : Run) → Reached number before r → RunAsks r → (x : Lined) → AreMain x.done → LineIs r.world number x
       → RunAsks (after_line r x)
-  line_asks number before r h ok x (ByItself d) = does_asks number r (kept_now number before r h) ok x d
-  line_asks number before r h ok x (Holds done nodes) = λ q.
+  line_asks number before r h ok x mains (ByItself d) = does_asks number r (kept_now number before r h) ok x mains d
+  line_asks number before r h ok x mains (Holds done nodes) = λ q.
       subst (λ (ns : List (ℕ × Node)). NodeAsks (r.done ++ x.done) q (at ns q)) (sym nodes)
       (nodes_ask r.done (r.done ++ x.done) q (at r.world.nodes q) (nothing_done r.done x.done done q) (ok q))
-  line_asks number before r h ok x (BehindHand y n held role f is d) =
+  line_asks number before r h ok x mains (BehindHand y n held role f is d) =
       let one = hand_deed number n role f in
       let up : Run = record r { world = taken_up r.world n held; done = r.done ++ one ∷ [] } in
       let asks : RunAsks up = λ q.
       nodes_ask r.done (r.done ++ one ∷ []) q (at r.world.nodes q)
       (still_same (account_of r.done q) (account_of (r.done ++ one ∷ []) q) (hand_known r.done number n role f q)) (ok q) in
-      let then = does_asks number up (kept_now number before r h) asks y d in
+      let then = does_asks number up (kept_now number before r h) asks y (subst (λ (z : Lined). AreMain z.done) is mains).1 d in
       subst (λ z. RunAsks (after_line r z)) (sym is) (λ q. subst (λ ds. NodeAsks ds q (at y.world.nodes q)) (append_assoc r.done (one ∷ []) y.done) (then q))
 
   pub asks_in_runs : (lines : List Line) → AreLines lines → AreCalm lines → RunAsks (run lines)
   unfolding account_from
   asks_in_runs lines fits calm =
-      holds_in_runs RunAsks (λ number before r h ok l x calm is. line_asks number before r h ok x (line_is r.world h.world number x l calm is)) (λ r fault ok. ok)
+      holds_in_runs RunAsks (λ number before r h ok l x calm is next.
+      line_asks number before r h ok x (mains_reached moves (number + 1) (before ++ l ∷ []) r x next)
+      (line_is r.world h.world number x l calm is)) (λ r fault ok. ok)
       (λ n. rw (at-none n) (λ i. refl)) lines fits calm
 
 -- ---- requests
@@ -234,11 +250,11 @@ drawn_at_lac r ok n i k s a =
     let asked = h.2.asked i k s (asking_at r.done n i k s a) in
     record { node = h.0; is = h.1; role = asked.1; some = asked.0.0; drawn = asked.0.1 }
 
-pub asked_in_runs : StepsAreChains → FactsOfRuns → AskedInRuns
-asked_in_runs chains facts lines fits calm n i k j l s a b =
+pub asked_in_runs : StepsAreChains → FactsOfRuns → MovesOfRuns → AskedInRuns
+asked_in_runs chains facts moves lines fits calm n i k j l s a b =
     let r = run lines in
-    let h = asked_node r.done n (at r.world.nodes n) (asks_in_runs chains facts lines fits calm n) i k s a in
+    let h = asked_node r.done n (at r.world.nodes n) (asks_in_runs chains facts moves lines fits calm n) i k s a in
     h.2.once i k j l s (asking_at r.done n i k s a) (asking_at r.done n j l s b)
 
-pub drawn_at_lacs_in_runs : StepsAreChains → FactsOfRuns → DrawnAtLacsInRuns
-drawn_at_lacs_in_runs chains facts lines fits calm n i k s a = drawn_at_lac (run lines) (asks_in_runs chains facts lines fits calm) n i k s a
+pub drawn_at_lacs_in_runs : StepsAreChains → FactsOfRuns → MovesOfRuns → DrawnAtLacsInRuns
+drawn_at_lacs_in_runs chains facts moves lines fits calm n i k s a = drawn_at_lac (run lines) (asks_in_runs chains facts moves lines fits calm) n i k s a

@@ -1,6 +1,7 @@
 -- Where the births of an LNS's sessions come from: each is that of the call that a request named, which a tunnel took.
 use Rattle.std.proofs.Common.{◌≡◌, ⊎_elim, ℕ, ◌+◌, ◌<◌, List, [], ◌∷◌, length, refl, sym, ap, ◌∙◌, subst, Option, Some, None, slice_get, arith}
 use Rattle.std.specs.Prelude.{unwrap_or}
+use Rattle.std.specs.List.{AllByRecursion}
 use Rattle.id_source.specs.Spaces.{Space, draw_is, next_is}
 use Rattle.id_table.specs.Ids.{at, put}
 use Rattle.id_table.specs.Order.{at_new, at_other, found_put, same_or_not}
@@ -18,6 +19,7 @@ use Rattle.world_model.specs.World.{World, Node, Sender, birth_in, birth_of, is_
 use Rattle.step_laws.specs.Callers.{wanted_by_lac}
 use Rattle.step_laws.specs.Moves.{Adds, Replies, Does, Chain}
 use Rattle.frame_laws.specs.Facts.{Nodes, Born, birth_in_node}
+use Rattle.frame_laws.specs.Unrecovered.{IsMain}
 use Rattle.connection_laws.specs.Accounts.{Taken, about, account_from}
 use Rattle.request_laws.proofs.Rows.{not_both}
 use Rattle.request_laws.proofs.Asked.{Known, Ordered, CallsGo}
@@ -196,13 +198,13 @@ module _ (v : World) (number n : ℕ) (r : Role) (sender : Option Sender) (momen
   abbrev next_known : Move → Known → Known
   next_known m known = known_after v number n r sender m known
 
-  calls_go : (x y : End) → Ordered x → (m : Move) → Does x moment ev m y → (i : ℕ) × CallsGo x y i
-  calls_go x y o m h = (about m, does_calls x y o moment ev m h)
+  calls_go : (x y : End) → Ordered x → (m : Move) → IsMain m → Does x moment ev m y → (i : ℕ) × CallsGo x y i
+  calls_go x y o m main h = (about m, does_calls x y o moment ev m main h)
 
-  still_born : (u : World) (known : Known) (x y : End) → BornOk n u.nodes known x → (m : Move) → Does x moment ev m y
+  still_born : (u : World) (known : Known) (x y : End) → BornOk n u.nodes known x → (m : Move) → IsMain m → Does x moment ev m y
       → y.session_ids ≡ x.session_ids → Bears n u.nodes u.nodes (next_known m known) y
-  still_born u known x y ok m h ids =
-      bears_still n u.nodes known (next_known m known) x y ok (calls_go x y ok.order m h) (deed_taken v number n r sender m known)
+  still_born u known x y ok m main h ids =
+      bears_still n u.nodes known (next_known m known) x y ok (calls_go x y ok.order m main h) (deed_taken v number n r sender m known)
       (ap (λ (q : Space). q.next) ids)
 
   -- a LAC's call is born
@@ -212,7 +214,7 @@ module _ (v : World) (number n : ℕ) (r : Role) (sender : Option Sender) (momen
       let new = (draw_is x.session_ids m.session h.drawn).0 in
       let next = ap (λ (e : End). e.session_ids.next) h.after ∙ ap (λ (ids : Space). ids.next) (next_is x.session_ids m.session h.drawn) in
       let role : y.role ≡ x.role = ap (λ (e : End). e.role) h.after in
-      bears_one n u.nodes known (next_known (move.Added m) known) x y ok (calls_go x y ok.order (move.Added m) h)
+      bears_one n u.nodes known (next_known (move.Added m) known) x y ok (calls_go x y ok.order (move.Added m) tt h)
       (deed_taken v number n r sender (move.Added m) known)
       m.session (next_birth u) (is_born u n m.session).nodes (born_nodes u n m.session ok.node ok.is) new next
       (λ lns. absurd (not_both y.role (role ∙ wanted_by_lac x ev h.tunnel.control.peer h.wants) lns))
@@ -225,7 +227,7 @@ module _ (v : World) (number n : ℕ) (r : Role) (sender : Option Sender) (momen
       let next = ap (λ (e : End). e.session_ids.next) h.after ∙ ap (λ (ids : Space). ids.next) (next_is x.session_ids m.session h.drawn) in
       let b = birth_of u (node_of m.peer) m.remote in
       let later = next_known (move.Replied m) known in
-      let calls = calls_go x y ok.order (move.Replied m) h in
+      let calls = calls_go x y ok.order (move.Replied m) tt h in
       let takes = deed_taken v number n r sender (move.Replied m) known in
       let ms = (with_birth u n m.session b).nodes in
       let are = made_nodes u n m.session b ok.node ok.is in
@@ -250,44 +252,45 @@ module _ (v : World) (number n : ℕ) (r : Role) (sender : Option Sender) (momen
         },
       ))
 
-  does_born : (u : World) (known : Known) (x y : End) → BornOk n u.nodes known x → (m : Move) → Does x moment ev m y
+  does_born : (u : World) (known : Known) (x y : End) → BornOk n u.nodes known x → (m : Move) → IsMain m → Does x moment ev m y
       → Bears n u.nodes (moved n u m).nodes (next_known m known) y
   unfolding moved
-  does_born u known x y ok (move.Opened m) h = still_born u known x y ok (move.Opened m) h (ap (λ (e : End). e.session_ids) h.after)
-  does_born u known x y ok (move.Accepted m) h = still_born u known x y ok (move.Accepted m) h (ap (λ (e : End). e.session_ids) h.after)
-  does_born u known x y ok (move.Connected m) h = still_born u known x y ok (move.Connected m) h (ap (λ (e : End). e.session_ids) h.after)
-  does_born u known x y ok (move.Confirmed m) h = still_born u known x y ok (move.Confirmed m) h (ap (λ (e : End). e.session_ids) h.after)
-  does_born u known x y ok (move.Added m) h = added_born u known x y ok m h
-  does_born u known x y ok (move.Requested m) h = still_born u known x y ok (move.Requested m) h (ap (λ (e : End). e.session_ids) h.after)
-  does_born u known x y ok (move.Replied m) h = replied_born u known x y ok m h
-  does_born u known x y ok (move.FirstUp m) h = still_born u known x y ok (move.FirstUp m) h (ap (λ (e : End). e.session_ids) h.after)
-  does_born u known x y ok (move.SecondUp m) h = still_born u known x y ok (move.SecondUp m) h (ap (λ (e : End). e.session_ids) h.after)
-  does_born u known x y ok (move.Refused m) h = still_born u known x y ok (move.Refused m) h (ap (λ (e : End). e.session_ids) h.after)
-  does_born u known x y ok (move.EndTold m) h = still_born u known x y ok (move.EndTold m) h (ap (λ (e : End). e.session_ids) h.after)
-  does_born u known x y ok (move.EndHeard m) h = still_born u known x y ok (move.EndHeard m) h (ap (λ (e : End). e.session_ids) h.after)
-  does_born u known x y ok (move.EndSilent m) h = still_born u known x y ok (move.EndSilent m) h (ap (λ (e : End). e.session_ids) h.after)
-  does_born u known x y ok (move.Declined m) h = still_born u known x y ok (move.Declined m) h (ap (λ (e : End). e.session_ids) h.after)
-  does_born u known x y ok (move.Closed m) h = still_born u known x y ok (move.Closed m) h (ap (λ (e : End). e.session_ids) h.after)
-  does_born u known x y ok (move.Rejected m) h = still_born u known x y ok (move.Rejected m) h (ap (λ (e : End). e.session_ids) h.after)
-  does_born u known x y ok (move.ClosedBy m) h = still_born u known x y ok (move.ClosedBy m) h (ap (λ (e : End). e.session_ids) h.after)
-  does_born u known x y ok (move.Cleared i booked) h = still_born u known x y ok (move.Cleared i booked) h (ap (λ (e : End). e.session_ids) h.after)
-  does_born u known x y ok (move.Greeted m) h = still_born u known x y ok (move.Greeted m) h (ap (λ (e : End). e.session_ids) h.after)
-  does_born u known x y ok (move.TookPlain m) h = still_born u known x y ok (move.TookPlain m) h (ap (λ (e : End). e.session_ids) h.after)
-  does_born u known x y ok (move.NrRead m) h = still_born u known x y ok (move.NrRead m) h (ap (λ (e : End). e.session_ids) h.after)
-  does_born u known x y ok (move.LetGo m) h = still_born u known x y ok (move.LetGo m) h (ap (λ (e : End). e.session_ids) h.after)
-  does_born u known x y ok (move.Repeated m) h = still_born u known x y ok (move.Repeated m) h (ap (λ (e : End). e.session_ids) h.after)
-  does_born u known x y ok (move.Quiet i) h = still_born u known x y ok (move.Quiet i) h (ap (λ (e : End). e.session_ids) h.after)
-  does_born u known x y ok (move.Negotiated m) h = still_born u known x y ok (move.Negotiated m) h (ap (λ (e : End). e.session_ids) h.after)
-  does_born u known x y ok (move.Counted m) h = still_born u known x y ok (move.Counted m) h (ap (λ (e : End). e.session_ids) h.after)
-  does_born u known x y ok (move.FrameSent m) h = still_born u known x y ok (move.FrameSent m) h (ap (λ (e : End). e.session_ids) h.after)
-  does_born u known x y ok (move.FrameUp m) h = still_born u known x y ok (move.FrameUp m) h (ap (λ (e : End). e.session_ids) h.after)
+  does_born u known x y ok (move.Opened m) main h = still_born u known x y ok (move.Opened m) main h (ap (λ (e : End). e.session_ids) h.after)
+  does_born u known x y ok (move.Accepted m) main h = still_born u known x y ok (move.Accepted m) main h (ap (λ (e : End). e.session_ids) h.after)
+  does_born u known x y ok (move.Connected m) main h = still_born u known x y ok (move.Connected m) main h (ap (λ (e : End). e.session_ids) h.after)
+  does_born u known x y ok (move.Confirmed m) main h = still_born u known x y ok (move.Confirmed m) main h (ap (λ (e : End). e.session_ids) h.after)
+  does_born u known x y ok (move.Added m) main h = added_born u known x y ok m h
+  does_born u known x y ok (move.Requested m) main h = still_born u known x y ok (move.Requested m) main h (ap (λ (e : End). e.session_ids) h.after)
+  does_born u known x y ok (move.Replied m) main h = replied_born u known x y ok m h
+  does_born u known x y ok (move.FirstUp m) main h = still_born u known x y ok (move.FirstUp m) main h (ap (λ (e : End). e.session_ids) h.after)
+  does_born u known x y ok (move.SecondUp m) main h = still_born u known x y ok (move.SecondUp m) main h (ap (λ (e : End). e.session_ids) h.after)
+  does_born u known x y ok (move.Refused m) main h = still_born u known x y ok (move.Refused m) main h (ap (λ (e : End). e.session_ids) h.after)
+  does_born u known x y ok (move.EndTold m) main h = still_born u known x y ok (move.EndTold m) main h (ap (λ (e : End). e.session_ids) h.after)
+  does_born u known x y ok (move.EndHeard m) main h = still_born u known x y ok (move.EndHeard m) main h (ap (λ (e : End). e.session_ids) h.after)
+  does_born u known x y ok (move.EndSilent m) main h = still_born u known x y ok (move.EndSilent m) main h (ap (λ (e : End). e.session_ids) h.after)
+  does_born u known x y ok (move.Declined m) main h = still_born u known x y ok (move.Declined m) main h (ap (λ (e : End). e.session_ids) h.after)
+  does_born u known x y ok (move.Closed m) main h = still_born u known x y ok (move.Closed m) main h (ap (λ (e : End). e.session_ids) h.after)
+  does_born u known x y ok (move.Rejected m) main h = still_born u known x y ok (move.Rejected m) main h (ap (λ (e : End). e.session_ids) h.after)
+  does_born u known x y ok (move.ClosedBy m) main h = still_born u known x y ok (move.ClosedBy m) main h (ap (λ (e : End). e.session_ids) h.after)
+  does_born u known x y ok (move.Cleared i booked) main h = still_born u known x y ok (move.Cleared i booked) main h (ap (λ (e : End). e.session_ids) h.after)
+  does_born u known x y ok (move.Greeted m) main h = still_born u known x y ok (move.Greeted m) main h (ap (λ (e : End). e.session_ids) h.after)
+  does_born u known x y ok (move.TookPlain m) main h = still_born u known x y ok (move.TookPlain m) main h (ap (λ (e : End). e.session_ids) h.after)
+  does_born u known x y ok (move.NrRead m) main h = still_born u known x y ok (move.NrRead m) main h (ap (λ (e : End). e.session_ids) h.after)
+  does_born u known x y ok (move.LetGo m) main h = still_born u known x y ok (move.LetGo m) main h (ap (λ (e : End). e.session_ids) h.after)
+  does_born u known x y ok (move.Repeated m) main h = still_born u known x y ok (move.Repeated m) main h (ap (λ (e : End). e.session_ids) h.after)
+  does_born u known x y ok (move.Quiet i) main h = still_born u known x y ok (move.Quiet i) main h (ap (λ (e : End). e.session_ids) h.after)
+  does_born u known x y ok (move.Negotiated m) main h = still_born u known x y ok (move.Negotiated m) main h (ap (λ (e : End). e.session_ids) h.after)
+  does_born u known x y ok (move.Counted m) main h = still_born u known x y ok (move.Counted m) main h (ap (λ (e : End). e.session_ids) h.after)
+  does_born u known x y ok (move.FrameSent m) main h = still_born u known x y ok (move.FrameSent m) main h (ap (λ (e : End). e.session_ids) h.after)
+  does_born u known x y ok (move.FrameUp m) main h = still_born u known x y ok (move.FrameUp m) main h (ap (λ (e : End). e.session_ids) h.after)
+  does_born u known x y ok m main h = absurd main
 
-  pub born_on : (u : World) (known : Known) (x y : End) → BornOk n u.nodes known x → (ms : List Move) → Chain moment ev x ms y
+  pub born_on : (u : World) (known : Known) (x y : End) → BornOk n u.nodes known x → (ms : List Move) → AllByRecursion IsMain ms → Chain moment ev x ms y
       → Bears n u.nodes (moved_all n ms u).nodes (known_then v number n r sender moment ev ms known) y
   unfolding account_from moved_all
-  born_on u known x y ok [] h = subst (λ e. Bears n u.nodes u.nodes known e) h (record { ok = ok; stay = λ m q c f. f })
-  born_on u known x y ok (m ∷ ms) h =
-      let g = does_born u known x h.0 ok m h.1 in
+  born_on u known x y ok [] mains h = subst (λ e. Bears n u.nodes u.nodes known e) h (record { ok = ok; stay = λ m q c f. f })
+  born_on u known x y ok (m ∷ ms) mains h =
+      let g = does_born u known x h.0 ok m mains.0 h.1 in
       let w = moved n u m in
-      let k = born_on w (next_known m known) h.0 y g.ok ms h.2 in
+      let k = born_on w (next_known m known) h.0 y g.ok ms mains.1 h.2 in
       record { ok = k.ok; stay = λ q s b f. k.stay q s b (g.stay q s b f) }

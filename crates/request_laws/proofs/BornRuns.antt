@@ -1,6 +1,7 @@
 -- Two sessions of LNSs with one birth are one, in every run.
-use Rattle.std.proofs.Common.{◌≡◌, ⊎_elim, ℕ, ◌<◌, List, [], ◌∷◌, ◌++◌, append_assoc, sym, ap, ◌∙◌, subst, Option, Some, None, slice_get, arith, Bool}
+use Rattle.std.proofs.Common.{◌≡◌, ⊎_elim, ℕ, ◌+◌, ◌<◌, List, [], ◌∷◌, ◌++◌, append_assoc, sym, ap, ◌∙◌, subst, Option, Some, None, slice_get, arith, Bool}
 use Rattle.std.proofs.lemmas.Option.{none-some}
+use Rattle.std.specs.List.{AllByRecursion}
 use Rattle.id_table.specs.Ids.{at, put, at-none}
 use Rattle.id_table.specs.Order.{at_new, found_put, same_or_not}
 use Rattle.schedule_text.specs.declared.line.Line.{Line}
@@ -25,6 +26,7 @@ use Rattle.step_laws.specs.Calm.{AreCalm}
 use Rattle.step_laws.specs.Steps.{StepsAreChains}
 use Rattle.frame_laws.specs.Facts.{Nodes, birth_in_node, PacketOk, NodeOk, Holds, FactsOfRuns}
 use Rattle.frame_laws.specs.Births.{IsBornAt, AreApart, BirthsOfRuns}
+use Rattle.frame_laws.specs.Unrecovered.{IsMain, MovesOfRuns}
 use Rattle.frame_laws.specs.Past.{Passage, past_of}
 use Rattle.connection_laws.specs.Accounts.{Taken, account_of}
 use Rattle.connection_laws.specs.Facts.{AccountOk}
@@ -36,8 +38,8 @@ use Rattle.request_laws.proofs.Deeds.{deeds}
 use Rattle.request_laws.proofs.Chains.{known_then}
 use Rattle.request_laws.proofs.Lines.{IsFrom, OfNobody, OfPacket, uncovered_from, told_line, LineDoes, Nothing, Declares, Steps, LineIs, ByItself, Holds as HeldLine, BehindHand, step_of, line_is}
 use Rattle.request_laws.proofs.Worlds.{step_nodes, step_done, step_follows, before_moves, after_moves}
-use Rattle.request_laws.proofs.Runs.{Reached, reached_is, holds_in_runs}
-use Rattle.request_laws.proofs.AskedRuns.{StillKnown, still_same, hand_known, known_more, known_elsewhere, kept_order, nothing_done, asked_in_runs, drawn_at_lacs_in_runs}
+use Rattle.request_laws.proofs.Runs.{Reached, reached_is, holds_in_runs, AreMain, mains_reached}
+use Rattle.request_laws.proofs.AskedRuns.{step_mains, StillKnown, still_same, hand_known, known_more, known_elsewhere, kept_order, nothing_done, asked_in_runs, drawn_at_lacs_in_runs}
 use Rattle.request_laws.proofs.Made.{heeds, taken_request, sent_by_partner, made_once}
 use Rattle.request_laws.proofs.Births.{Drawn, Told, BirthsStay, Tells, tells_later, ComesFrom, BornOk, Bears, born_on, birth_there, put_stays}
 
@@ -69,6 +71,8 @@ node_again from lt = omega arith
 
 sent_from : (from : ℕ) (o : Origin) (s : Sender) → sender_of from o ≡ Some s → s.node ≡ from
 sent_from from (origin.Control c) s h = let e : record { node = from; tunnel = c.tunnel } ≡ s = cc in ap (λ (x : Sender). x.node) (sym e)
+sent_from from (origin.Recovery tunnel number empty) s h =
+    let e : record { node = from; tunnel = tunnel } ≡ s = cc in ap (λ (x : Sender). x.node) (sym e)
 sent_from from (origin.Data session) s h = absurd (cc)
 
 comes_from : (w : World) (sender : Option Sender) (ev : Event) → ((k : ℕ) (p : Packet) → slice_get w.packets k ≡ Some p → p.from < 256) → IsFrom w sender ev
@@ -111,7 +115,7 @@ module _ (r : Run) (ok : RunTells r) where
 
   module _ (chains : StepsAreChains) (gs : List Passage) (facts : Holds r.world gs)
       (number n : ℕ) (old : Node) (clock : ℕ) (access : Option Access) (checkpoint : Checkpoint) (ev : Event) (sender : Option Sender) (there : at r.world.nodes n ≡ Some old)
-      (from : IsFrom r.world sender ev) where
+      (from : IsFrom r.world sender ev) (mains : AllByRecursion IsMain (step old.end clock (block_of n number) ev).moves) where
     -- what came, as it is read
     abbrev came : Event
     came = uncovered_event old.end.config.secret ev
@@ -158,7 +162,8 @@ module _ (r : Run) (ok : RunTells r) where
     bears =
         let chain = (chains old.end node_ok.kept clock (block_of n number) came).chain in
         born_on v number n old.end.role sender clock came
-        (comes_from r.world sender came few (uncovered_from r.world sender ev old.end.config.secret from)) base (account_of r.done n) old.end s.end here s.moves chain
+        (comes_from r.world sender came few (uncovered_from r.world sender ev old.end.config.secret from))
+        base (account_of r.done n) old.end s.end here s.moves mains chain
 
     done_is : x.done ≡ deeds v number n old.end.role sender s.moves
     done_is = step_done r.world number n timed sender s
@@ -181,7 +186,7 @@ module _ (r : Run) (ok : RunTells r) where
 
     step_tells : RunTells (after_line r x)
     step_tells q node f =
-        let g = step_follows r.world number n timed sender s in
+        let g = step_follows r.world number n timed sender s mains in
         let later = account_of (r.done ++ x.done) q in
         subst (λ ms. NodeTells ms later node) (sym nodes_are)
         (⊎_elim
@@ -196,12 +201,15 @@ module _ (r : Run) (ok : RunTells r) where
         node_tells_later r.world.nodes v.nodes stay (account_of r.done q) later same node (ok q node (sym (g.others q other) ∙ f)))
         (same_or_not q n))
 
-module _ (chains : StepsAreChains) (facts : FactsOfRuns) where
-  does_tells : (number : ℕ) (r : Run) (gs : List Passage) → Holds r.world gs → RunTells r → (x : Lined) → LineDoes r.world number x → RunTells (after_line r x)
-  does_tells number r gs now ok x (Nothing es e) = quiet_tells r ok x es e
-  does_tells number r gs now ok x (Declares n role lns secret hide none es e) = declared_tells r ok x number n role lns secret hide none es e
-  does_tells number r gs now ok x (Steps n old clock access checkpoint ev sender es there from e) =
-      subst (λ y. RunTells (after_line r y)) (sym e) (step_tells r ok chains gs now number n old clock access checkpoint ev sender there from)
+module _ (chains : StepsAreChains) (facts : FactsOfRuns) (moves : MovesOfRuns) where
+  does_tells : (number : ℕ) (r : Run) (gs : List Passage) → Holds r.world gs → RunTells r → (x : Lined) → AreMain x.done → LineDoes r.world number x
+      → RunTells (after_line r x)
+  does_tells number r gs now ok x mains (Nothing es e) = quiet_tells r ok x es e
+  does_tells number r gs now ok x mains (Declares n role lns secret hide none es e) = declared_tells r ok x number n role lns secret hide none es e
+  does_tells number r gs now ok x mains (Steps n old clock access checkpoint ev sender es there from e) =
+      subst (λ y. RunTells (after_line r y)) (sym e)
+      (step_tells r ok chains gs now number n old clock access checkpoint ev sender there from
+      (step_mains r.world number n old clock access checkpoint ev sender (subst (λ (y : Lined). AreMain y.done) e mains)))
 
   -- what is known changes with no frame that is held or handed up
   still_tells : (ns : Nodes) (ds es : List Deed) → ((q : ℕ) → StillKnown (account_of ds q) (account_of es q)) → ((q : ℕ) (node : Node) → at ns q ≡ Some node → NodeTells ns (account_of ds q) node)
@@ -211,26 +219,29 @@ module _ (chains : StepsAreChains) (facts : FactsOfRuns) where
   holds_now : (number : ℕ) (before : List Line) (r : Run) → Reached number before r → Holds r.world (past_of before).sent
   holds_now number before r h = subst (λ (q : Run). Holds q.world (past_of before).sent) (reached_is number before r h) (facts before h.fit h.calm)
 
-  line_tells : (number : ℕ) (before : List Line) (r : Run) → Reached number before r → RunTells r → (x : Lined) → LineIs r.world number x
+  line_tells : (number : ℕ) (before : List Line) (r : Run) → Reached number before r → RunTells r → (x : Lined) → AreMain x.done → LineIs r.world number x
       → RunTells (after_line r x)
-  line_tells number before r h ok x (ByItself d) = does_tells number r (past_of before).sent (holds_now number before r h) ok x d
-  line_tells number before r h ok x (HeldLine done nodes) = λ q node f.
+  line_tells number before r h ok x mains (ByItself d) = does_tells number r (past_of before).sent (holds_now number before r h) ok x mains d
+  line_tells number before r h ok x mains (HeldLine done nodes) = λ q node f.
       subst (λ (ns : Nodes). NodeTells ns (account_of (r.done ++ x.done) q) node) (sym nodes)
       (still_tells r.world.nodes r.done (r.done ++ x.done) (λ k. nothing_done r.done x.done done k) ok q node (rw (← nodes) f))
-  line_tells number before r h ok x (BehindHand y n held role g is d) =
+  line_tells number before r h ok x mains (BehindHand y n held role g is d) =
       let one = hand_deed number n role g in
       let up : Run = record r { world = taken_up r.world n held; done = r.done ++ one ∷ [] } in
       let now = holds_now number before r h in
       let tells : RunTells up =
       still_tells r.world.nodes r.done (r.done ++ one ∷ [])
       (λ k. still_same (account_of r.done k) (account_of (r.done ++ one ∷ []) k) (hand_known r.done number n role g k)) ok in
-      let then = does_tells number up (past_of before).sent (record { nodes = now.nodes; packets = now.packets }) tells y d in
+      let then = does_tells number up (past_of before).sent (record { nodes = now.nodes; packets = now.packets }) tells y
+      (subst (λ (z : Lined). AreMain z.done) is mains).1 d in
       subst (λ z. RunTells (after_line r z)) (sym is)
       (λ q node f. subst (λ ds. NodeTells y.world.nodes (account_of ds q) node) (append_assoc r.done (one ∷ []) y.done) (then q node f))
 
   pub tells_in_runs : (lines : List Line) → AreLines lines → AreCalm lines → RunTells (run lines)
   tells_in_runs lines fits calm =
-      holds_in_runs RunTells (λ number before r h ok l x calm is. line_tells number before r h ok x (line_is r.world h.world number x l calm is)) (λ r fault ok. ok)
+      holds_in_runs RunTells (λ number before r h ok l x calm is next.
+      line_tells number before r h ok x (mains_reached moves (number + 1) (before ++ l ∷ []) r x next)
+      (line_is r.world h.world number x l calm is)) (λ r fault ok. ok)
       (λ n node f. absurd (none-some node (sym (at-none n) ∙ f))) lines fits calm
 
 -- ---- sessions of LNSs
@@ -238,10 +249,10 @@ module _ (chains : StepsAreChains) (facts : FactsOfRuns) where
 made_at : (ds : List Deed) (n s : ℕ) (h : Drawn (account_of ds n) s) → IsMadeAt ds n h.tunnel h.number h.reply
 made_at ds n s h = record { taken = h.taken; there = h.there; replied = h.move_is }
 
-pub drawn_for_requests_in_runs : StepsAreChains → FactsOfRuns → DrawnForRequestsInRuns
-drawn_for_requests_in_runs chains facts lines fits calm n node is lns s some lt =
+pub drawn_for_requests_in_runs : StepsAreChains → FactsOfRuns → MovesOfRuns → DrawnForRequestsInRuns
+drawn_for_requests_in_runs chains facts moves lines fits calm n node is lns s some lt =
     let ds = (run lines).done in
-    let h = (tells_in_runs chains facts lines fits calm n node is lns).drawn s some lt in
+    let h = (tells_in_runs chains facts moves lines fits calm n node is lns).drawn s some lt in
     record { tunnel = h.tunnel; number = h.number; reply = h.reply; made = made_at ds n s h; session_is = h.session }
 
 module _ (ds : List Deed) (ok : (n i : ℕ) → AccountOk (account_of ds) n i (account_of ds n i)) (w : World) where
@@ -280,13 +291,14 @@ module _ (ds : List Deed) (ok : (n i : ℕ) → AccountOk (account_of ds) n i (a
         let reply : c.reply ≡ d.reply = cc in
         (place.0, sym c.session ∙ (ap (λ (x : Replied). x.session) reply ∙ d.session))
 
-pub born_in_runs : StepsAreChains → FactsOfRuns → BirthsOfRuns → HoldsInRuns → BornInRuns
-born_in_runs chains facts births holds lines fits calm few b n s m q one two =
+pub born_in_runs : StepsAreChains → FactsOfRuns → MovesOfRuns → BirthsOfRuns → HoldsInRuns → BornInRuns
+born_in_runs chains facts moves births holds lines fits calm few b n s m q one two =
     let r = run lines in
     let ok = (holds lines fits calm few).accounts in
-    let asked = asked_in_runs chains facts in
-    let tells = tells_in_runs chains facts lines fits calm in
+    let asked = asked_in_runs chains facts moves in
+    let tells = tells_in_runs chains facts moves lines fits calm in
     let nodes = (facts lines fits calm).nodes in
     let h = (tells n one.node one.is one.role).told s b one.birth_is ((nodes n one.node one.is).births s b one.birth_is).1 in
     let k = (tells m two.node two.is two.role).told q b two.birth_is ((nodes m two.node two.is).births q b two.birth_is).1 in
-    one_session r.done ok r.world (drawn_at_lacs_in_runs chains facts lines fits calm) (made_once r.done ok (asked lines fits calm)) (births lines fits calm few) n s m q b h k
+    one_session r.done ok r.world (drawn_at_lacs_in_runs chains facts moves lines fits calm)
+    (made_once r.done ok (asked lines fits calm)) (births lines fits calm few) n s m q b h k

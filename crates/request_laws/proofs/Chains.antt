@@ -1,5 +1,6 @@
 -- What holds of calls and of letters that ask for them, along the moves of a step.
 use Rattle.std.proofs.Common.{◌≡◌, inl, inr, ⊎_elim, ℕ, List, [], ◌∷◌, length, sym, subst, Option}
+use Rattle.std.specs.List.{AllByRecursion}
 use Rattle.end_model.specs.declared.event.Event.{Event}
 use Rattle.end_model.specs.declared.moves.Move.{Move}
 use Rattle.end_model.specs.declared.moves.Move.TheVariants as move
@@ -7,6 +8,7 @@ use Rattle.end_names.specs.declared.role.Role.{Role}
 use Rattle.end_model.specs.End.{End}
 use Rattle.world_model.specs.World.{World, Sender}
 use Rattle.step_laws.specs.Moves.{Does, Chain}
+use Rattle.frame_laws.specs.Unrecovered.{IsMain}
 use Rattle.connection_laws.specs.Accounts.{about, account_from}
 use Rattle.request_laws.proofs.Asked.{Known, AskOk, IsNow, LettersGo, ask_goes_on}
 use Rattle.request_laws.proofs.Deeds.{IsRequest, deeds, known_after, deed_asks}
@@ -43,6 +45,7 @@ module _ (v : World) (number n : ℕ) (r : Role) (sender : Option Sender) (momen
   asks_now known x y ok (move.Counted m) h s q = absurd q
   asks_now known x y ok (move.FrameSent m) h s q = absurd q
   asks_now known x y ok (move.FrameUp m) h s q = absurd q
+  asks_now known x y ok m h s q = absurd q
 
   letters_go : (known : Known) (x y : End) → AskOk known x → (m : Move) → Does x moment ev m y
       → LettersGo known (known_after v number n r sender m known) x y (about m)
@@ -51,15 +54,17 @@ module _ (v : World) (number n : ℕ) (r : Role) (sender : Option Sender) (momen
       (λ (b : (i ≡ about m) × (k ≡ length (known (about m)).given) × IsRequest m s). inr (b.0, b.1, asks_now known x y ok m h s b.2))
       (deed_asks v number n r sender m known i k s a)
 
-  does_ask : (known : Known) (x y : End) → AskOk known x → (m : Move) → Does x moment ev m y → AskOk (known_after v number n r sender m known) y
-  does_ask known x y ok m h =
-      ask_goes_on known (known_after v number n r sender m known) x y (about m) ok (does_calls x y ok.order moment ev m h) (letters_go known x y ok m h)
+  does_ask : (known : Known) (x y : End) → AskOk known x → (m : Move) → IsMain m → Does x moment ev m y → AskOk (known_after v number n r sender m known) y
+  does_ask known x y ok m main h =
+      ask_goes_on known (known_after v number n r sender m known) x y (about m) ok (does_calls x y ok.order moment ev m main h) (letters_go known x y ok m h)
 
   -- what is known after the deeds of a step
   abbrev pub known_then : List Move → Known → Known
   known_then ms known i = account_from (deeds v number n r sender ms) n i (known i)
 
-  pub asks_on : (known : Known) (x y : End) → AskOk known x → (ms : List Move) → Chain moment ev x ms y → AskOk (known_then ms known) y
+  pub asks_on : (known : Known) (x y : End) → AskOk known x → (ms : List Move) → AllByRecursion IsMain ms → Chain moment ev x ms y
+      → AskOk (known_then ms known) y
   unfolding account_from
-  asks_on known x y ok [] h = subst (AskOk known) h ok
-  asks_on known x y ok (m ∷ ms) h = asks_on (known_after v number n r sender m known) h.0 y (does_ask known x h.0 ok m h.1) ms h.2
+  asks_on known x y ok [] mains h = subst (AskOk known) h ok
+  asks_on known x y ok (m ∷ ms) mains h =
+      asks_on (known_after v number n r sender m known) h.0 y (does_ask known x h.0 ok m mains.0 h.1) ms mains.1 h.2

@@ -1,6 +1,7 @@
 -- What the deeds of a step leave of what is known of each tunnel.
 use Rattle.std.proofs.Common.{◌≡◌, ◌⊎◌, inl, inr, ⊎_elim, ℕ, Bool, true, false, List, [], ◌∷◌, ◌++◌, length, slice_get, refl, sym, ap, ◌∙◌, subst, Option, Some, eq-eqb, ne_eqb}
 use Rattle.std.specs.Prelude.{map}
+use Rattle.std.specs.List.{AllByRecursion}
 use Rattle.id_table.specs.Order.{same_or_not}
 use Rattle.control_message.specs.declared.message.Message.TheVariants.{Icrq}
 use Rattle.end_model.specs.declared.moves.Replied.{Replied}
@@ -10,6 +11,7 @@ use Rattle.end_names.specs.declared.role.Role.{Role}
 use Rattle.end_model.specs.Messages.{request_of}
 use Rattle.world_model.specs.World.{World, Sender, Deed, deed_of}
 use Rattle.step_laws.specs.Letters.{Letter}
+use Rattle.frame_laws.specs.Unrecovered.{IsMain}
 use Rattle.connection_laws.specs.Accounts.{Taken, Account, about, entered, declines_of, declined_in, after_deed, account_from}
 use Rattle.request_laws.proofs.Lists.{got_left, got_last, got_in}
 use Rattle.request_laws.proofs.Asked.{Asking, Known}
@@ -62,6 +64,7 @@ IsRequest (move.Negotiated m) s = ⊥
 IsRequest (move.Counted m) s = ⊥
 IsRequest (move.FrameSent m) s = ⊥
 IsRequest (move.FrameUp m) s = ⊥
+IsRequest m s = ⊥
 
 module _ (v : World) (number n : ℕ) (r : Role) (sender : Option Sender) where
   abbrev pub deed : Move → Deed
@@ -69,6 +72,11 @@ module _ (v : World) (number n : ℕ) (r : Role) (sender : Option Sender) where
 
   abbrev pub deeds : List Move → List Deed
   deeds ms = map deed ms
+
+  -- the moves of deeds that aren't of a recovery
+  pub mains_of : (ms : List Move) → AllByRecursion (λ (d : Deed). IsMain d.move) (deeds ms) → AllByRecursion IsMain ms
+  mains_of [] h = tt
+  mains_of (m ∷ ms) h = (h.0, mains_of ms h.1)
 
   -- ---- letters that ask
 
@@ -116,6 +124,7 @@ module _ (v : World) (number n : ℕ) (r : Role) (sender : Option Sender) where
   entered_asks (move.Counted m) a k s h = inl h
   entered_asks (move.FrameSent m) a k s h = inl h
   entered_asks (move.FrameUp m) a k s h = inl h
+  entered_asks m a k s h = inl h
 
   -- ---- letters that are taken
 
@@ -151,6 +160,7 @@ module _ (v : World) (number n : ℕ) (r : Role) (sender : Option Sender) where
   entered_taken (move.Counted m) a k u h = h
   entered_taken (move.FrameSent m) a k u h = h
   entered_taken (move.FrameUp m) a k u h = h
+  entered_taken m a k u h = h
 
   -- the request that a call is made for is the next letter that is taken
   abbrev pub taken_for : Replied → Taken

@@ -8,6 +8,7 @@ use Rattle.world_model.specs.World.{Sender, Deed}
 use Rattle.world_model.specs.Run.{run}
 use Rattle.step_laws.specs.Steps.{StepsAreChains}
 use Rattle.frame_laws.specs.Facts.{FactsOfRuns}
+use Rattle.frame_laws.specs.Unrecovered.{MovesOfRuns}
 use Rattle.connection_laws.specs.Accounts.{Part, Unmade, Opener, Acceptor, Taken, Account, heeded, account_of, partner_of}
 use Rattle.connection_laws.specs.Facts.{Accounts, Tells, IsPart, IsIgnored, AccountOk, partner_in}
 use Rattle.connection_laws.specs.Channels.{HoldsInRuns}
@@ -96,5 +97,6 @@ module _ (ds : List Deed) (ok : (n i : ℕ) → AccountOk (account_of ds) n i (a
         same.1,
       )
 
-pub made_in_runs : StepsAreChains → FactsOfRuns → HoldsInRuns → MadeInRuns
-made_in_runs chains facts holds lines fits calm few = made_once (run lines).done (holds lines fits calm few).accounts (asked_in_runs chains facts lines fits calm)
+pub made_in_runs : StepsAreChains → FactsOfRuns → MovesOfRuns → HoldsInRuns → MadeInRuns
+made_in_runs chains facts moves holds lines fits calm few =
+    made_once (run lines).done (holds lines fits calm few).accounts (asked_in_runs chains facts moves lines fits calm)

@@ -31,6 +31,7 @@ use Rattle.end_model.specs.End.{End}
 use Rattle.call_link.specs.Laws.{turn_at}
 use Rattle.call_link.specs.Link.{new_link}
 use Rattle.step_laws.specs.Moves.{with_tunnel, without_call, Opens, Accepts, Adds, Requests, Replies, ComesUpFirst, ComesUpSecond, Negotiates, Counts, Does}
+use Rattle.frame_laws.specs.Unrecovered.{IsMain}
 use Rattle.connection_laws.specs.Accounts.{about}
 use Rattle.request_laws.proofs.Rows.{Asks, up_row, asked_over, first_over, second_over}
 use Rattle.request_laws.proofs.Asked.{IsCall, Known, Ordered, AskOk, Was, Went, New, CallsGo, IsNow}
@@ -232,35 +233,36 @@ module _ (x y : End) (o : Ordered x) where
       })
 
   -- each move
-  pub does_calls : (moment : ℕ) (ev : Event) (m : Move) → Does x moment ev m y → CallsGo x y (about m)
-  does_calls moment ev (move.Opened m) h = opened_calls moment ev m h
-  does_calls moment ev (move.Accepted m) h = accepted_calls moment ev m h
-  does_calls moment ev (move.Connected m) h = stays m.tunnel h.tunnel _ h.there h.after refl
-  does_calls moment ev (move.Confirmed m) h = stays m.tunnel h.tunnel _ h.there h.after refl
-  does_calls moment ev (move.Added m) h = added_calls moment ev m h
-  does_calls moment ev (move.Requested m) h = requested_calls moment m h
-  does_calls moment ev (move.Replied m) h = replied_calls moment ev m h
-  does_calls moment ev (move.FirstUp m) h = first_calls moment ev m h
-  does_calls moment ev (move.SecondUp m) h = second_calls moment ev m h
-  does_calls moment ev (move.Refused m) h = stays m.tunnel h.tunnel _ h.there h.after refl
-  does_calls moment ev (move.EndTold m) h = told_calls moment ev m h
-  does_calls moment ev (move.EndHeard m) h = heard_calls moment ev m h
-  does_calls moment ev (move.EndSilent m) h = silent_calls moment ev m h
-  does_calls moment ev (move.Declined m) h = same 0 h.after
-  does_calls moment ev (move.Closed m) h = closed_calls moment ev m h
-  does_calls moment ev (move.Rejected m) h = rejected_calls moment ev m h
-  does_calls moment ev (move.ClosedBy m) h = closed_by_calls moment ev m h
-  does_calls moment ev (move.Cleared i booked) h = cleared_calls moment ev i booked h
-  does_calls moment ev (move.Greeted m) h = stays m.tunnel h.tunnel _ h.there h.after refl
-  does_calls moment ev (move.TookPlain m) h = stays m.tunnel h.tunnel _ h.there h.after refl
-  does_calls moment ev (move.NrRead m) h = stays m.tunnel h.tunnel _ h.there h.after refl
-  does_calls moment ev (move.LetGo m) h = stays m.tunnel h.tunnel _ h.there h.after refl
-  does_calls moment ev (move.Repeated m) h = stays m.tunnel h.tunnel _ h.there h.after refl
-  does_calls moment ev (move.Quiet i) h = same i h.after
-  does_calls moment ev (move.Negotiated m) h = negotiated_calls moment ev m h
-  does_calls moment ev (move.Counted m) h = counted_calls moment ev m h
-  does_calls moment ev (move.FrameSent m) h = same m.tunnel h.after
-  does_calls moment ev (move.FrameUp m) h = same m.tunnel h.after
+  pub does_calls : (moment : ℕ) (ev : Event) (m : Move) → IsMain m → Does x moment ev m y → CallsGo x y (about m)
+  does_calls moment ev (move.Opened m) main h = opened_calls moment ev m h
+  does_calls moment ev (move.Accepted m) main h = accepted_calls moment ev m h
+  does_calls moment ev (move.Connected m) main h = stays m.tunnel h.tunnel _ h.there h.after refl
+  does_calls moment ev (move.Confirmed m) main h = stays m.tunnel h.tunnel _ h.there h.after refl
+  does_calls moment ev (move.Added m) main h = added_calls moment ev m h
+  does_calls moment ev (move.Requested m) main h = requested_calls moment m h
+  does_calls moment ev (move.Replied m) main h = replied_calls moment ev m h
+  does_calls moment ev (move.FirstUp m) main h = first_calls moment ev m h
+  does_calls moment ev (move.SecondUp m) main h = second_calls moment ev m h
+  does_calls moment ev (move.Refused m) main h = stays m.tunnel h.tunnel _ h.there h.after refl
+  does_calls moment ev (move.EndTold m) main h = told_calls moment ev m h
+  does_calls moment ev (move.EndHeard m) main h = heard_calls moment ev m h
+  does_calls moment ev (move.EndSilent m) main h = silent_calls moment ev m h
+  does_calls moment ev (move.Declined m) main h = same 0 h.after
+  does_calls moment ev (move.Closed m) main h = closed_calls moment ev m h
+  does_calls moment ev (move.Rejected m) main h = rejected_calls moment ev m h
+  does_calls moment ev (move.ClosedBy m) main h = closed_by_calls moment ev m h
+  does_calls moment ev (move.Cleared i booked) main h = cleared_calls moment ev i booked h
+  does_calls moment ev (move.Greeted m) main h = stays m.tunnel h.tunnel _ h.there h.after refl
+  does_calls moment ev (move.TookPlain m) main h = stays m.tunnel h.tunnel _ h.there h.after refl
+  does_calls moment ev (move.NrRead m) main h = stays m.tunnel h.tunnel _ h.there h.after refl
+  does_calls moment ev (move.LetGo m) main h = stays m.tunnel h.tunnel _ h.there h.after refl
+  does_calls moment ev (move.Repeated m) main h = stays m.tunnel h.tunnel _ h.there h.after refl
+  does_calls moment ev (move.Quiet i) main h = same i h.after
+  does_calls moment ev (move.Negotiated m) main h = negotiated_calls moment ev m h
+  does_calls moment ev (move.Counted m) main h = counted_calls moment ev m h
+  does_calls moment ev (move.FrameSent m) main h = same m.tunnel h.after
+  does_calls moment ev (move.FrameUp m) main h = same m.tunnel h.after
+  does_calls moment ev m main h = absurd main
 
   -- a call that is asked for was still to be, and isn't any more
   pub requested_now : (known : Known) → AskOk known x → (moment : ℕ) (m : Requested) → Requests x moment m y → IsNow x y m.tunnel m.session

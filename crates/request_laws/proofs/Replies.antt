@@ -88,6 +88,7 @@ entered_replied d a (move.Negotiated m) is h = h
 entered_replied d a (move.Counted m) is h = h
 entered_replied d a (move.FrameSent m) is h = h
 entered_replied d a (move.FrameUp m) is h = h
+entered_replied d a m is h = h
 
 deed_replied : (d : Deed) (n i : ℕ) (a : Account) → AreReplied a.taken a.given → AreReplied (after_deed d n i a).taken (after_deed d n i a).given
 deed_replied d n i a h = by (declines_of d.move n i) ((d.node == n) && (about d.move == i))

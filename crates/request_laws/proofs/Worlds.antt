@@ -1,6 +1,7 @@
 -- What a step of one node does to the nodes.
 use Rattle.std.proofs.Common.{◌≡◌, ℕ, ◌+◌, ◌-◌, ◌^◌, List, [], ◌∷◌, refl, ◌∙◌, Option, Some}
 use Rattle.std.specs.Prelude.{min}
+use Rattle.std.specs.List.{AllByRecursion}
 use Rattle.id_table.specs.Ids.{at, put}
 use Rattle.id_table.specs.Order.{at_new, at_other}
 use Rattle.end_model.specs.declared.moves.Move.{Move}
@@ -10,6 +11,7 @@ use Rattle.end_model.specs.declared.out.Out.TheVariants.{Send, Up, Gone, Drop, C
 use Rattle.end_names.specs.Names.{node_of}
 use Rattle.end_model.specs.End.{End, Stepped}
 use Rattle.world_model.specs.World.{World, Node, Sender, with_node, is_born, with_birth, birth_of, moved, moved_all, sent, shown, shown_all, given, after_step}
+use Rattle.frame_laws.specs.Unrecovered.{IsMain}
 use Rattle.request_laws.proofs.Deeds.{deeds}
 
 -- ---- births
@@ -52,45 +54,47 @@ same_follows n v node is = record { node = node; is = is; end_is = refl; others 
 follows_on : (n : ℕ) (u v w : World) (d e : End) → Follows n u v d → Follows n v w e → e ≡ d → Follows n u w d
 follows_on n u v w d e g h same = record { node = h.node; is = h.is; end_is = h.end_is ∙ same; others = λ q o. h.others q o ∙ g.others q o }
 
-moved_follows : (n : ℕ) (v : World) (node : Node) → at v.nodes n ≡ Some node → (m : Move) → Follows n v (moved n v m) node.end
+moved_follows : (n : ℕ) (v : World) (node : Node) → at v.nodes n ≡ Some node → (m : Move) → IsMain m → Follows n v (moved n v m) node.end
 unfolding moved
-moved_follows n v node is (move.Opened m) = same_follows n v node is
-moved_follows n v node is (move.Accepted m) = same_follows n v node is
-moved_follows n v node is (move.Connected m) = same_follows n v node is
-moved_follows n v node is (move.Confirmed m) = same_follows n v node is
-moved_follows n v node is (move.Added m) = put_follows n v _ (with_one node m.session (next_birth v)) (born_nodes v n m.session node is)
-moved_follows n v node is (move.Requested m) = same_follows n v node is
-moved_follows n v node is (move.Replied m) =
+moved_follows n v node is (move.Opened m) main = same_follows n v node is
+moved_follows n v node is (move.Accepted m) main = same_follows n v node is
+moved_follows n v node is (move.Connected m) main = same_follows n v node is
+moved_follows n v node is (move.Confirmed m) main = same_follows n v node is
+moved_follows n v node is (move.Added m) main = put_follows n v _ (with_one node m.session (next_birth v)) (born_nodes v n m.session node is)
+moved_follows n v node is (move.Requested m) main = same_follows n v node is
+moved_follows n v node is (move.Replied m) main =
     let b = birth_of v (node_of m.peer) m.remote in put_follows n v _ (with_one node m.session b) (made_nodes v n m.session b node is)
-moved_follows n v node is (move.FirstUp m) = same_follows n v node is
-moved_follows n v node is (move.SecondUp m) = same_follows n v node is
-moved_follows n v node is (move.Refused m) = same_follows n v node is
-moved_follows n v node is (move.EndTold m) = same_follows n v node is
-moved_follows n v node is (move.EndHeard m) = same_follows n v node is
-moved_follows n v node is (move.EndSilent m) = same_follows n v node is
-moved_follows n v node is (move.Declined m) = same_follows n v node is
-moved_follows n v node is (move.Closed m) = same_follows n v node is
-moved_follows n v node is (move.Rejected m) = same_follows n v node is
-moved_follows n v node is (move.ClosedBy m) = same_follows n v node is
-moved_follows n v node is (move.Cleared i booked) = same_follows n v node is
-moved_follows n v node is (move.Greeted m) = same_follows n v node is
-moved_follows n v node is (move.TookPlain m) = same_follows n v node is
-moved_follows n v node is (move.NrRead m) = same_follows n v node is
-moved_follows n v node is (move.LetGo m) = same_follows n v node is
-moved_follows n v node is (move.Repeated m) = same_follows n v node is
-moved_follows n v node is (move.Quiet i) = same_follows n v node is
-moved_follows n v node is (move.Negotiated m) = same_follows n v node is
-moved_follows n v node is (move.Counted m) = same_follows n v node is
-moved_follows n v node is (move.FrameSent m) = same_follows n v node is
-moved_follows n v node is (move.FrameUp m) = same_follows n v node is
+moved_follows n v node is (move.FirstUp m) main = same_follows n v node is
+moved_follows n v node is (move.SecondUp m) main = same_follows n v node is
+moved_follows n v node is (move.Refused m) main = same_follows n v node is
+moved_follows n v node is (move.EndTold m) main = same_follows n v node is
+moved_follows n v node is (move.EndHeard m) main = same_follows n v node is
+moved_follows n v node is (move.EndSilent m) main = same_follows n v node is
+moved_follows n v node is (move.Declined m) main = same_follows n v node is
+moved_follows n v node is (move.Closed m) main = same_follows n v node is
+moved_follows n v node is (move.Rejected m) main = same_follows n v node is
+moved_follows n v node is (move.ClosedBy m) main = same_follows n v node is
+moved_follows n v node is (move.Cleared i booked) main = same_follows n v node is
+moved_follows n v node is (move.Greeted m) main = same_follows n v node is
+moved_follows n v node is (move.TookPlain m) main = same_follows n v node is
+moved_follows n v node is (move.NrRead m) main = same_follows n v node is
+moved_follows n v node is (move.LetGo m) main = same_follows n v node is
+moved_follows n v node is (move.Repeated m) main = same_follows n v node is
+moved_follows n v node is (move.Quiet i) main = same_follows n v node is
+moved_follows n v node is (move.Negotiated m) main = same_follows n v node is
+moved_follows n v node is (move.Counted m) main = same_follows n v node is
+moved_follows n v node is (move.FrameSent m) main = same_follows n v node is
+moved_follows n v node is (move.FrameUp m) main = same_follows n v node is
+moved_follows n v node is m main = absurd main
 
-pub moved_all_follows : (n : ℕ) (v : World) (node : Node) → at v.nodes n ≡ Some node → (ms : List Move) → Follows n v (moved_all n ms v) node.end
+pub moved_all_follows : (n : ℕ) (v : World) (node : Node) → at v.nodes n ≡ Some node → (ms : List Move) → AllByRecursion IsMain ms
+    → Follows n v (moved_all n ms v) node.end
 unfolding moved_all
-moved_all_follows n v node is [] = same_follows n v node is
-moved_all_follows n v node is (m ∷ ms) =
-    let g = moved_follows n v node is m in
+moved_all_follows n v node is [] mains = same_follows n v node is
+moved_all_follows n v node is (m ∷ ms) mains =
+    let g = moved_follows n v node is m mains.0 in
     let w = moved n v m in
-    follows_on n v w (moved_all n ms w) node.end g.node.end g (moved_all_follows n w g.node g.is ms) g.end_is
+    follows_on n v w (moved_all n ms w) node.end g.node.end g (moved_all_follows n w g.node g.is ms mains.1) g.end_is
 
 pub shown_nodes : (n : ℕ) (os : List Out) (w : World) → (shown_all n os w).nodes ≡ w.nodes
 unfolding shown_all shown sent
@@ -119,11 +123,11 @@ module _ (w : World) (number n : ℕ) (node : Node) (sender : Option Sender) (s 
   unfolding after_step given
   step_done = refl
 
-  pub step_follows : Follows n w (after_step w number n node sender s).world s.end
-  step_follows =
+  pub step_follows : AllByRecursion IsMain s.moves → Follows n w (after_step w number n node sender s).world s.end
+  step_follows mains =
       let ended : Node = record node { end = s.end } in
       let g = put_follows n w before_moves ended refl in
-      let h = follows_on n w before_moves after_moves s.end s.end g (moved_all_follows n before_moves ended (at_new w.nodes n ended) s.moves) refl in
+      let h = follows_on n w before_moves after_moves s.end s.end g (moved_all_follows n before_moves ended (at_new w.nodes n ended) s.moves mains) refl in
       record {
         node = h.node;
         is = rw step_nodes h.is;

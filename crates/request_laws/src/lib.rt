@@ -5,6 +5,7 @@
 ghost use Rattle.connection_laws.specs.Channels.{HoldsInRuns};
 ghost use Rattle.frame_laws.specs.Births.{BirthsOfRuns};
 ghost use Rattle.frame_laws.specs.Facts.{FactsOfRuns};
+ghost use Rattle.frame_laws.specs.Unrecovered.{MovesOfRuns};
 ghost use Rattle.request_laws.specs.Requests.{AskedInRuns, BornInRuns, DrawnAtLacsInRuns, DrawnForRequestsInRuns, MadeInRuns};
 ghost use Rattle.step_laws.specs.Steps.{StepsAreChains};
 
@@ -12,11 +13,13 @@ ghost use Rattle.step_laws.specs.Steps.{StepsAreChains};
 fn laws_below()
     ensures chains { StepsAreChains }
     ensures facts { FactsOfRuns }
+    ensures moves { MovesOfRuns }
     ensures births { BirthsOfRuns }
     ensures connections { HoldsInRuns }
 {
     step_laws::steps_are_chains();
     frame_laws::facts_hold();
+    frame_laws::moves_are_main();
     frame_laws::births_are_apart();
     connection_laws::facts_hold();
 }

@@ -1,5 +1,6 @@
 -- The runs, the steps and the tables, computed.
 use Rattle.std.proofs.Common.{refl}
+use Rattle.world_model.specs.Texts.{send_text}
 use Rattle.run_examples.specs.Crossing.{FramesCross}
 use Rattle.run_examples.specs.Endings.{CallsEndOnce}
 use Rattle.run_examples.specs.Held.{FramesAreHeld}
@@ -7,6 +8,7 @@ use Rattle.run_examples.specs.Leaving.{StepsLeaveRecords, left_on, left_from}
 use Rattle.run_examples.specs.Messages.{MessagesAreTakenInOrder, MessagesAreAcknowledged, WindowsAreKept, OpeningsComeOnce}
 use Rattle.run_examples.specs.Outlived.{OldPacketsAreRefused}
 use Rattle.run_examples.specs.Owed.{LettersOwedAreCounted}
+use Rattle.run_examples.specs.Recoveries.{OldEpochsAreRefused, BothEndsRecover, FrozenCallsEndSilently, TunnelsAreRecovered}
 use Rattle.run_examples.specs.Refusals.{CallsAreRefused}
 use Rattle.run_examples.specs.Rules.{DataAreNumbered, IdsRunOut}
 use Rattle.run_examples.specs.Tables.{TablesTell}
@@ -103,3 +105,19 @@ data_are_numbered = record { number = refl; wraps = refl; goes_on = refl; lcp = 
 pub ids_run_out : IdsRunOut
 unfolding computing
 ids_run_out = record { tunnels = refl; tunnels_kept = refl; opening = refl; opening_kept = refl; sessions = refl; sessions_kept = refl }
+
+pub old_epochs_are_refused : OldEpochsAreRefused
+unfolding computing
+old_epochs_are_refused = record { fault = refl }
+
+pub both_ends_recover : BothEndsRecover
+unfolding computing
+both_ends_recover = record { tied = refl; marked = refl; tables = refl }
+
+pub frozen_calls_end_silently : FrozenCallsEndSilently
+unfolding computing
+frozen_calls_end_silently = record { entries = refl; tables = refl }
+
+pub tunnels_are_recovered : TunnelsAreRecovered
+unfolding computing send_text
+tunnels_are_recovered = record { entries = refl }

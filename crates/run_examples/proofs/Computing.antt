@@ -22,21 +22,26 @@ use Rattle.end_model.specs.Turn.{with_turn, with_output, with_move, with_change,
 use Rattle.end_model.specs.Sending.{gives, gives_as, takes_one, reads_nr, sends_letter, sends_now, lets_go, goes_by, lets_all_go, acknowledges, acknowledged_after, settles, takes_plain, ignores}
 use Rattle.end_model.specs.Openings.{with_local, opened, opens_by, opens, accepted, accepts_by, accepts, connected, confirms}
 use Rattle.end_model.specs.Ringing.{requested, requests, requests_at, requests_all, adds, rings_over, rings_by, rings_new, rings, rings_within}
-use Rattle.end_model.specs.Hearing.{connects, takes_by, takes, about_call, in_call, hears, hears_faulty, hears_said, hears_next, hears_letter, in_tunnel, first_said, hears_control, hears_datagram}
+use Rattle.end_model.specs.Hearing.{connects, takes_by, takes, about_call, in_call, hears, hears_faulty, hears_said, hears_next, hears_letter, in_tunnel, first_said, ignores_all, hears_control, hears_datagram}
 use Rattle.end_model.specs.Asking.{replied, replies, call_of, session_named, granted, asked_by}
 use Rattle.end_model.specs.Connecting.{first_up, first_up_by, second_up, connects_call, linked_up, second_up_by, end_heard, end_heard_by, ends_named}
 use Rattle.end_model.specs.Frames.{sends_frame, counts, carried, carries}
 use Rattle.end_model.specs.Linking.{sends_frames, negotiated, ends_linked, links_by, hears_link, hears_lcp}
 use Rattle.end_model.specs.Events.{turns, with_calls}
-use Rattle.end_model.specs.Stopping.{shuts, closed_told, closes_tunnel, rejected, rejects, closed_by, shuts_by}
+use Rattle.end_model.specs.Stopping.{shuts, closed_told, closes_tunnel, rejected, rejects, closed_by, clears, shuts_by}
 use Rattle.end_model.specs.Closing.{end_silent, end_told, ends_by, closes}
 use Rattle.end_model.specs.Refusing.{answers_by, refused, refuses, of_no_call}
 use Rattle.end_model.specs.Faulty.{faulty_at, faulty, in_faulty_call}
 use Rattle.end_model.specs.Secrets.{uncovered_datagram}
-use Rattle.end_model.specs.End.{gives_only, placed, with_look, with_looks, after_turn, after_new, in_new, in_one_more, in_main, known_as, opens_once, addressed, main_of, reached_by, reached_plain, against_opening, against_body, declined, opens_or_declines, for_addressee, least_in, rings_in, rings_at, for_call, then_heard, handed, hands_up, receives, only_by, step_in, plain_step}
+use Rattle.end_model.specs.End.{gives_only, placed, with_look, with_looks, after_turn, after_new, in_new, in_one_more, in_main, known_as, recovered_by, answered_to, in_recovery, freezes, recovers_tunnel, recovers_by, recovers, are_recovering, opens_once, addressed, main_of, reached_by, reached_plain, against_opening, against_body, declined, opens_or_declines, for_addressee, least_in, rings_in, rings_at, for_call, then_heard, handed, hands_up, receives, only_by, step_in, plain_step}
 use Rattle.end_model.specs.Contents.{records_of, contents_of}
-use Rattle.end_model.specs.Starting.{gone_with, all_gone, all_cleared, starts, kept_hosts}
-use Rattle.world_model.specs.World.{held_line, held_or_dropped, loads_by, loads_it, loads, hears as hears_held, hands_it, hands, recorded_all, commits_by, commits, fallen, cut_line, settled, committed, crashed, armed, started, birth_of, with_birth, is_born, moved, moved_all, sent, shown, entry_of, shown_all, entries_of, given, after_step, added, block_of, stepped, addressee_of, arrival, too_old, refused_by, arrives, delivers_it, delivers, line}
+use Rattle.end_model.specs.Starting.{keeps_calls, opens_link, opens_links, restores, forgets, restored_by, restored, restored_all, starts, kept_hosts}
+use Rattle.end_model.specs.Recovering.{recovery_letter, goes_once, goes_by as line_goes_by, goes, acknowledges_on, attempted, ends_unfinished, froze, resets, resets_by, follows, heeds, hears_class, settles_on, without_recovery, ends_attempt, hears_read, hears_recovery, repeats_on, ticks_on, recovery_ticks, recovering_turns}
+use Rattle.end_model.specs.Ticking.{greeted, greets, limits_at, limits_all, goes_quietly, ticks_by, ticks}
+use Rattle.recovery_tunnel.specs.Connections.{refuses as line_refuses}
+use Rattle.recovery_tunnel.specs.Attempts.{new_attempt, told_to_attempt, attempt_after}
+use Rattle.recovery_tunnel.specs.Answers.{new_answer, told_to_answer, answer_after}
+use Rattle.world_model.specs.World.{standing_of, with_standing, makes_epoch, enters_epoch, loses_counts, held_line, held_or_dropped, loads_by, loads_it, loads, hears as hears_held, hands_it, hands, recorded_all, commits_by, commits, fallen, cut_line, settled, committed, crashed, armed, started, birth_of, with_birth, is_born, moved, moved_all, sent, shown, entry_of, shown_all, entries_of, given, after_step, added, block_of, stepped, addressee_of, arrival, too_old, refused_by, arrives, delivers_it, delivers, line}
 use Rattle.world_model.specs.Run.{goes_on, run_from, down_text, tunnel_text, call_text, call_table, tunnel_line, node_table, end_table, lns_tunnel, partner_of, agree, session_count, agree_text, agree_with, agree_line, node_agreements, agreement_table, tables}
 use Rattle.hex.specs.Hex.{encode_with}
 use Rattle.std.specs.Fmt.{digits}
@@ -61,7 +66,10 @@ unfolding takes_id at put_at without u16_bytes u32_bytes is_control has_length h
     node_table end_table lns_tunnel partner_of agree session_count agree_text agree_with agree_line node_agreements
     agreement_table tables encode_with digits sent_in handed_in farewell holder_of subscriber_of
     packet_of options_at is_good part asked request_heard ack_heard nak_heard reject_heard answer_heard answers_last heard_as
-    counting_from holder records_of contents_of gone_with all_gone all_cleared starts kept_hosts recorded_all commits_by commits fallen cut_line settled committed
+    counting_from holder records_of contents_of keeps_calls opens_link opens_links restores forgets restored_by restored restored_all starts kept_hosts
+    recovery_letter goes_once line_goes_by goes acknowledges_on attempted ends_unfinished froze resets resets_by follows heeds hears_class settles_on without_recovery ends_attempt hears_read hears_recovery repeats_on ticks_on recovery_ticks recovering_turns
+    greeted greets limits_at limits_all goes_quietly ticks_by ticks clears ignores_all recovered_by answered_to in_recovery freezes recovers_tunnel recovers_by recovers are_recovering standing_of with_standing makes_epoch enters_epoch loses_counts
+    line_refuses new_attempt told_to_attempt attempt_after new_answer told_to_answer answer_after recorded_all commits_by commits fallen cut_line settled committed
     crashed armed started down_text held_line held_or_dropped loads_by loads_it loads hears_held hands_it hands
     packet_sent requesting link_asks counted zeroed configured terminated signalled acted link_stepped acked naks_after link_refuses link_confirms
     code_rejected echoed answered link_opened after_heard after_read after_packet

@@ -11,3 +11,4 @@ pub mod Refusals
 pub mod Rules
 pub mod Tables
 pub mod Leaving
+pub mod Recoveries

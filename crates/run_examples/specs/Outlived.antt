@@ -31,7 +31,7 @@ abbrev pub bytes : ℕ → ℕ → List ℕ
 bytes ns nr = control_bytes 7 0 (on_wire ns) (on_wire nr) (spelling (pairs_of (Icrq 2 2 (Some (48 ∷ [])))))
 
 abbrev pub packet : ℕ → ℕ → Packet
-packet ns nr = packet_from 9 4 (bytes ns nr) (origin.Control (record { tunnel = 1; ns = ns; nr = nr; empty = false }))
+packet ns nr = packet_from 9 4 (bytes ns nr) (origin.Control (record { tunnel = 1; ns = ns; nr = nr; empty = false })) 0
 
 abbrev pub world : ℕ → ℕ → ℕ → World
 world taken ns nr = record empty_world { nodes = (4, record (new_node 0 4 role.Lns 0 None false) { end = lns taken }) ∷ []; packets = packet ns nr ∷ [] }

@@ -56,7 +56,7 @@ has_room_held c = nat_le (c.channel.window.queued + 4) 8192
 abbrev pub careless : End
 careless =
     if has_room_held control
-    then (after_turn lac 1 [] calls (settles false [] (rings_by role.Lac lac.config (subscriber 75) (takes_id lac.session_ids) (turn_of control (env_of lac 0 []))))).end
+    then (after_turn lac 1 [] calls None (settles false [] (rings_by role.Lac lac.config (subscriber 75) (takes_id lac.session_ids) (turn_of control (env_of lac 0 []))))).end
     else lac
 
 -- the operator drops a call

@@ -11,6 +11,7 @@ ghost use Rattle.run_examples.specs.Leaving.{StepsLeaveRecords};
 ghost use Rattle.run_examples.specs.Messages.{MessagesAreTakenInOrder, MessagesAreAcknowledged, WindowsAreKept, OpeningsComeOnce};
 ghost use Rattle.run_examples.specs.Outlived.{OldPacketsAreRefused};
 ghost use Rattle.run_examples.specs.Owed.{LettersOwedAreCounted};
+ghost use Rattle.run_examples.specs.Recoveries.{BothEndsRecover, FrozenCallsEndSilently, OldEpochsAreRefused, TunnelsAreRecovered};
 ghost use Rattle.run_examples.specs.Refusals.{CallsAreRefused};
 ghost use Rattle.run_examples.specs.Rules.{DataAreNumbered, FramesAreLookedAt, IdsRunOut};
 ghost use Rattle.run_examples.specs.Tables.{TablesTell};
@@ -94,4 +95,25 @@ pub fn ids_run_out()
 /// A call that isn't up is no session, and ends agree only where each took all that the other gave.
 pub fn tables_tell()
     ensures { TablesTell }
+{}
+
+/// A tunnel of an LNS that crashed is recovered, byte for byte: the SCCRQ with its draw number, LCP's requests, the SCCRP with the
+/// numbers to go on with, and the SCCCN.
+pub fn tunnels_are_recovered()
+    ensures { TunnelsAreRecovered }
+{}
+
+/// Of two ends that both crashed the LNS answers and the LAC doesn't, and an attempt that comes late is dropped.
+pub fn both_ends_recover()
+    ensures { BothEndsRecover }
+{}
+
+/// A call that is hung up while its tunnel is frozen ends without a message.
+pub fn frozen_calls_end_silently()
+    ensures { FrozenCallsEndSilently }
+{}
+
+/// A message that was sent before the reset of its tunnel ends the run, told with both epochs.
+pub fn old_epochs_are_refused()
+    ensures { OldEpochsAreRefused }
 {}

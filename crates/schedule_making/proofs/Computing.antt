@@ -23,10 +23,10 @@ use Rattle.end_model.specs.Closing.{end_silent, end_told, ends_by, closes}
 use Rattle.end_model.specs.Refusing.{answers_by, refused, refuses, of_no_call}
 use Rattle.end_model.specs.Faulty.{faulty_at, faulty, in_faulty_call}
 use Rattle.end_model.specs.Secrets.{uncovered_datagram}
-use Rattle.end_model.specs.End.{gives_only, placed, with_look, with_looks, after_turn, after_new, in_new, in_one_more, in_main, known_as, opens_once, addressed, main_of, reached_by, reached_plain, against_opening, against_body, declined, opens_or_declines, for_addressee, least_in, rings_in, rings_at, for_call, then_heard, handed, hands_up, receives, only_by, step_in, plain_step}
+use Rattle.end_model.specs.End.{gives_only, placed, with_look, with_looks, after_turn, after_new, in_new, in_one_more, in_main, known_as, opens_once, addressed, main_of, reached_by, reached_plain, against_opening, against_body, declined, opens_or_declines, for_addressee, least_in, are_recovering, rings_in, rings_at, for_call, then_heard, handed, hands_up, receives, only_by, step_in, plain_step}
 use Rattle.end_model.specs.Contents.{records_of, contents_of}
-use Rattle.end_model.specs.Starting.{gone_with, all_gone, all_cleared, starts, kept_hosts}
-use Rattle.world_model.specs.World.{recorded_all, commits_by, commits, fallen, cut_line, settled, committed, crashed, armed, started, birth_of, with_birth, is_born, moved, moved_all, sent, shown, entry_of, shown_all, entries_of, given, after_step, added, block_of, stepped, addressee_of, arrival, too_old, refused_by, arrives, delivers_it, delivers, line}
+use Rattle.end_model.specs.Starting.{restored_all, starts, kept_hosts}
+use Rattle.world_model.specs.World.{recorded_all, commits_by, commits, standing_of, loses_counts, fallen, cut_line, settled, committed, crashed, armed, started, birth_of, with_birth, is_born, moved, moved_all, sent, shown, entry_of, shown_all, entries_of, given, after_step, added, block_of, stepped, addressee_of, arrival, too_old, refused_by, arrives, delivers_it, delivers, line}
 use Rattle.world_model.specs.Run.{goes_on, run_from, down_text, tunnel_text, call_text, call_table, tunnel_line, node_table, end_table, lns_tunnel, partner_of, agree, session_count, agree_text, agree_with, agree_line, node_agreements, agreement_table, tables}
 
 unfoldable pub computing : Unit {0}
@@ -41,9 +41,10 @@ unfolding digits u16_bytes u32_bytes takes_id counting_from at put_at without ho
     counts carried carries sends_frames negotiated ends_linked links_by hears_link hears_lcp turns with_calls shuts closed_told closes_tunnel rejected
     rejects closed_by shuts_by end_silent end_told ends_by closes answers_by refused refuses of_no_call faulty_at faulty in_faulty_call
     uncovered_datagram gives_only placed with_look with_looks after_turn after_new in_new in_one_more in_main known_as opens_once addressed
-    main_of reached_by reached_plain against_opening against_body declined opens_or_declines for_addressee least_in rings_in rings_at
-    for_call then_heard handed hands_up receives only_by step_in plain_step records_of contents_of gone_with all_gone all_cleared starts
-    kept_hosts recorded_all commits_by commits fallen cut_line settled committed crashed armed started birth_of with_birth is_born moved
+    main_of reached_by reached_plain against_opening against_body declined opens_or_declines for_addressee least_in are_recovering
+    rings_in rings_at for_call then_heard handed hands_up receives only_by step_in plain_step records_of contents_of restored_all starts
+    kept_hosts recorded_all commits_by commits standing_of loses_counts fallen cut_line settled committed crashed armed started birth_of with_birth
+    is_born moved
     moved_all sent shown entry_of shown_all entries_of given after_step added block_of stepped addressee_of arrival too_old refused_by
     arrives delivers_it delivers line goes_on run_from down_text tunnel_text call_text call_table tunnel_line node_table end_table
     lns_tunnel partner_of agree session_count agree_text agree_with agree_line node_agreements agreement_table tables

@@ -5,7 +5,7 @@ use Rattle.std.proofs.lemmas.Option.{none-some}
 use Rattle.wire_base.specs.declared.bytes.NoMemory.{NoMemory}
 use Rattle.schedule_text.specs.declared.line.Line.{Line}
 use Rattle.world_model.specs.declared.refusal.Refusal.{Refusal}
-use Rattle.world_model.specs.declared.refusal.Refusal.TheVariants.{Unfit, HalfSpace, StoreFull}
+use Rattle.world_model.specs.declared.refusal.Refusal.TheVariants.{Unfit, HalfSpace, Stale, StoreFull}
 use Rattle.world_model.specs.World.{World, Lined, quiet_line, line}
 use Rattle.world_model.specs.Run.{Run, run_from, empty_run, run, after_line, goes_on}
 use Rattle.schedule_replay.specs.Counting.{ups_after, ups_of}
@@ -107,6 +107,7 @@ pub refused_runs : (r : Result Line NoMemory) (e : Refusal) (ls : List Line) (ol
 refused_runs (Err y) e ls old new is stays at = tt
 refused_runs (Ok x) (Unfit w) ls old new is stays at = rw (stays, is.0) (remark_goes ls old at)
 refused_runs (Ok x) (HalfSpace number count) ls old new is stays at = rw (stays, is.0) (remark_goes ls old at)
+refused_runs (Ok x) (Stale sent own) ls old new is stays at = rw (stays, is.0) (remark_goes ls old at)
 refused_runs (Ok x) (StoreFull records) ls old new is stays at = absurd is.1
 
 pub settled_none : (ls : List Line) → passed_over ≡ settled ls None

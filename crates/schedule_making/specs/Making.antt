@@ -3,7 +3,7 @@ use Rattle.std.specs.Prelude.{◌≡◌, ℕ, zero, suc, ◌+◌, Bool, false, L
 use Rattle.schedule_text.specs.declared.line.Line.{Line}
 use Rattle.schedule_text.specs.declared.line.Line.TheVariants.{Remark, Lac, Lns, OpenUp}
 use Rattle.world_model.specs.declared.refusal.Refusal.{Refusal}
-use Rattle.world_model.specs.declared.refusal.Refusal.TheVariants.{Unfit, HalfSpace, StoreFull}
+use Rattle.world_model.specs.declared.refusal.Refusal.TheVariants.{Unfit, HalfSpace, Stale, StoreFull}
 use Rattle.world_model.specs.World.{line}
 use Rattle.world_model.specs.Run.{run}
 use Rattle.schedule_replay.specs.Counting.{ups_of}
@@ -52,6 +52,7 @@ lines_of_seed seed count = (making seed count).lines
 abbrev pub GoesOn : Refusal → Type 0
 GoesOn (Unfit why) = Unit {0}
 GoesOn (HalfSpace number count) = Unit {0}
+GoesOn (Stale sent own) = Unit {0}
 GoesOn (StoreFull records) = ⊥
 
 -- it is where the run of these lines leads, none of which is refused

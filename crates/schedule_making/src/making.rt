@@ -26,7 +26,9 @@ fn pass_over(alloc: Global, refusal: Refusal) -> Result<Line, NoMemory>
 {
     match refusal {
         Refusal::StoreFull { .. } => Err(NoMemory),
-        Refusal::Unfit { .. } | Refusal::HalfSpace { .. } => passed_over(alloc),
+        Refusal::Unfit { .. } | Refusal::HalfSpace { .. } | Refusal::Stale { .. } => {
+            passed_over(alloc)
+        }
     }
 }
 

@@ -12,7 +12,7 @@ use Rattle.end_model.specs.Access.{Access, serves}
 use Rattle.end_model.specs.Contents.{contents_of}
 use Rattle.end_model.specs.End.{Stepped, step}
 use Rattle.world_model.specs.declared.refusal.Refusal.{Refusal}
-use Rattle.world_model.specs.declared.refusal.Refusal.TheVariants.{Unfit, HalfSpace, StoreFull}
+use Rattle.world_model.specs.declared.refusal.Refusal.TheVariants.{Unfit, HalfSpace, Stale, StoreFull}
 use Rattle.world_model.specs.Texts.{entry_text}
 use Rattle.world_model.specs.declared.held.Held.{Held}
 use Rattle.world_model.specs.World.{World, Node, Lined, Committed, IsFull, IsCut, IsWhole, with_node, moved_all, given, after_step, commits, without_held, cut_line, settled, committed, stepped, block_of, declared, held_at, taken_up, hand_entry, behind_up, hears, hands_it, hands}
@@ -105,6 +105,7 @@ never_unfit w line n f side.Lcp (Some x) e h = by (site_commits x (site_step (si
 full_stays : (e : Refusal) (records : ℕ) → e ≡ StoreFull records → (mid old new : Told) → mid.report ≡ old.report → mid.ups ≡ old.ups → Stays e mid new → Stays e old new
 full_stays (Unfit x) records is mid old new report ups h = absurd (cc)
 full_stays (HalfSpace a b) records is mid old new report ups h = absurd (cc)
+full_stays (Stale a b) records is mid old new report ups h = absurd (cc)
 full_stays (StoreFull a) records is mid old new report ups h = (h.0 ∙ report, h.1 ∙ ups)
 
 -- what is said of the world without the frame is said of the world with it

@@ -1,5 +1,5 @@
 -- A node commits what a step of its end leaves.
-use Rattle.std.proofs.Common.{◌≡◌, ℕ, Bool, List, refl, sym, ap, subst, ◌∙◌, Result, Ok, Err}
+use Rattle.std.proofs.Common.{◌≡◌, inl, inr, ℕ, Bool, List, refl, sym, ap, subst, ◌∙◌, Result, Ok, Err}
 use Rattle.session_book.specs.declared.record.Record.{Record}
 use Rattle.end_names.specs.declared.role.Role.{Role}
 use Rattle.end_model.specs.declared.tunnel.Config.{Config}
@@ -15,7 +15,7 @@ use Rattle.schedule_replay.specs.declared.kinds.Moved.{Moved}
 use Rattle.schedule_replay.specs.declared.node.Unmade.{Unmade}
 use Rattle.schedule_replay.specs.declared.node.Unmade.TheVariants as unmade
 use Rattle.schedule_replay.specs.Kinds.{Site, site_in}
-use Rattle.schedule_replay.specs.Serving.{SiteStep, site_contents, kind_of, IsFileOf, GivesSite, IsLeft, IsAsBefore, MakesStep}
+use Rattle.schedule_replay.specs.Serving.{SiteStep, site_contents, site_commits, kind_of, IsFileOf, GivesSite, IsLeft, MayLeave, IsAsBefore, MakesStep}
 use Rattle.schedule_replay.proofs.Keeps.{who}
 
 module _ (block : List ℕ) (x : Node) (v : SiteStep) (old after : Filed) (known : old.known ≡ x.checkpoint) where
@@ -36,44 +36,54 @@ module _ (block : List ℕ) (x : Node) (v : SiteStep) (old after : Filed) (known
   )
 
   -- or why they weren't
-  pub step_left : (u : Unmade) (f : StepFault CommitStop) (up : Bool) (mid new : Node) → who v.site.end ≡ who x.end
+  pub step_left : (u : Unmade) (f : StepFault CommitStop) (up : Bool) (mid new : Node)
       → Commits {T = Moved} CommitsFile (Err f) (site_contents (site_in x) v) old after → mid ≡ record x { up = up; checkpoint = after.known }
       → IsLeft u f block mid new → MakesStep (Err u) block v x new
   unfolding fallen
-  step_left unmade.Cut (fault.Uncommitted stop.Cut) up mid new keeps committed is left =
-      let role : v.site.end.role ≡ x.end.role = ap (λ (p : Role × Config). p.0) keeps in
-      let config : v.site.end.config ≡ x.end.config = ap (λ (p : Role × Config). p.1) keeps in
-      (after.known, of_known (IsCut after.known) committed.0, left ∙ rw (is, role, config) refl)
-  step_left unmade.Cut (fault.Uncommitted stop.NoMemory) up mid new keeps committed is left = absurd left
-  step_left unmade.Cut (fault.Uncommitted stop.Differs) up mid new keeps committed is left = absurd left
-  step_left unmade.Cut (fault.Uncommitted (stop.Full records)) up mid new keeps committed is left = absurd left
-  step_left unmade.Cut fault.NoMemory up mid new keeps committed is left = absurd left
-  step_left (unmade.Full records) (fault.Uncommitted (stop.Full told)) up mid new keeps committed is left =
+  step_left unmade.Cut (fault.Uncommitted stop.Cut) up mid new committed is left =
+      (after.known, of_known (IsCut after.known) committed.0, left ∙ rw is refl)
+  step_left unmade.Cut (fault.Uncommitted stop.NoMemory) up mid new committed is left = absurd left
+  step_left unmade.Cut (fault.Uncommitted stop.Differs) up mid new committed is left = absurd left
+  step_left unmade.Cut (fault.Uncommitted (stop.Full records)) up mid new committed is left = absurd left
+  step_left unmade.Cut fault.NoMemory up mid new committed is left = absurd left
+  step_left (unmade.Full records) (fault.Uncommitted (stop.Full told)) up mid new committed is left =
       rw left.0 (of_known (IsFull told) committed.0.0)
-  step_left (unmade.Full records) (fault.Uncommitted stop.NoMemory) up mid new keeps committed is left = absurd left
-  step_left (unmade.Full records) (fault.Uncommitted stop.Differs) up mid new keeps committed is left = absurd left
-  step_left (unmade.Full records) (fault.Uncommitted stop.Cut) up mid new keeps committed is left = absurd left
-  step_left (unmade.Full records) fault.NoMemory up mid new keeps committed is left = absurd left
-  step_left unmade.NoMemory f up mid new keeps committed is left = tt
+  step_left (unmade.Full records) (fault.Uncommitted stop.NoMemory) up mid new committed is left = absurd left
+  step_left (unmade.Full records) (fault.Uncommitted stop.Differs) up mid new committed is left = absurd left
+  step_left (unmade.Full records) (fault.Uncommitted stop.Cut) up mid new committed is left = absurd left
+  step_left (unmade.Full records) fault.NoMemory up mid new committed is left = absurd left
+  step_left unmade.NoMemory f up mid new committed is left = tt
 
--- what a node that didn't fall is behind a step that wasn't made
-module _ (block : List ℕ) (x : Node) (rs : List Record) (old after : Filed) (known : old.known ≡ x.checkpoint) where
+  -- what a node that didn't fall is behind a step that wasn't made
   as_it_was : (mid new : Node) → mid ≡ record x { checkpoint = after.known } → after.known ≡ old.known → new ≡ mid → new ≡ x
   as_it_was mid new is same left = left ∙ is ∙ ap (λ (k : Checkpoint). record x { checkpoint = k }) (same ∙ known)
 
-  pub left_as_before : (u : Unmade) (f : StepFault CommitStop) (mid new : Node) → Commits {T = Moved} CommitsFile (Err f) rs old after
-      → mid ≡ record x { checkpoint = after.known } → IsLeft u f block mid new → IsAsBefore {T = Moved} (Err u) x new
+  same_left : (c : Committed) (k : Checkpoint) → MayLeave c k k
+  same_left (IsFull records) k = refl
+  same_left (IsCut j) k = inl refl
+  same_left (IsWhole j) k = refl
+
+  all_as_before : (mid new : Node) → mid ≡ record x { checkpoint = after.known } → after.known ≡ old.known → new ≡ mid
+      → IsAsBefore {T = Moved} (Err unmade.NoMemory) (site_commits x v) x new
+  all_as_before mid new is same left = (x.checkpoint, as_it_was mid new is same left, same_left (site_commits x v) x.checkpoint)
+
+  pub left_as_before : (u : Unmade) (f : StepFault CommitStop) (mid new : Node)
+      → Commits {T = Moved} CommitsFile (Err f) (site_contents (site_in x) v) old after → mid ≡ record x { checkpoint = after.known }
+      → IsLeft u f block mid new → IsAsBefore {T = Moved} (Err u) (site_commits x v) x new
   left_as_before unmade.Cut f mid new committed is left = tt
   left_as_before (unmade.Full records) (fault.Uncommitted (stop.Full told)) mid new committed is left = as_it_was mid new is committed.0.1 left.1
   left_as_before (unmade.Full records) (fault.Uncommitted stop.NoMemory) mid new committed is left = absurd left
   left_as_before (unmade.Full records) (fault.Uncommitted stop.Differs) mid new committed is left = absurd left
   left_as_before (unmade.Full records) (fault.Uncommitted stop.Cut) mid new committed is left = absurd left
   left_as_before (unmade.Full records) fault.NoMemory mid new committed is left = absurd left
-  left_as_before unmade.NoMemory (fault.Uncommitted stop.NoMemory) mid new committed is left = as_it_was mid new is committed.0 left
-  left_as_before unmade.NoMemory (fault.Uncommitted stop.Differs) mid new committed is left = as_it_was mid new is committed.0.1 left
+  left_as_before unmade.NoMemory (fault.Uncommitted stop.NoMemory) mid new committed is left = all_as_before mid new is committed.0 left
+  left_as_before unmade.NoMemory (fault.Uncommitted stop.Differs) mid new committed is left = all_as_before mid new is committed.0.1 left
   left_as_before unmade.NoMemory (fault.Uncommitted (stop.Full records)) mid new committed is left = absurd left
-  left_as_before unmade.NoMemory (fault.Uncommitted stop.Cut) mid new committed is left = absurd left
-  left_as_before unmade.NoMemory fault.NoMemory mid new committed is left = as_it_was mid new is (ap (λ (f : Filed). f.known) committed) left
+  left_as_before unmade.NoMemory (fault.Uncommitted stop.Cut) mid new committed is left =
+      let cut : site_commits x v ≡ IsCut after.known = of_known (IsCut after.known) committed.0 in
+      (after.known, left ∙ is, subst (λ (c : Committed). MayLeave c x.checkpoint after.known) (sym cut) (inr refl))
+  left_as_before unmade.NoMemory fault.NoMemory mid new committed is left =
+      all_as_before mid new is (ap (λ (f : Filed). f.known) committed) left
 
 -- ---- whose file it is
 

@@ -4,7 +4,7 @@ use Rattle.std.proofs.lemmas.List.{drop_all}
 use Rattle.std.proofs.lemmas.Grind.{flat_map-append}
 use Rattle.schedule_text.specs.declared.line.Line.{Line}
 use Rattle.world_model.specs.declared.refusal.Refusal.{Refusal}
-use Rattle.world_model.specs.declared.refusal.Refusal.TheVariants.{Unfit, HalfSpace, StoreFull}
+use Rattle.world_model.specs.declared.refusal.Refusal.TheVariants.{Unfit, HalfSpace, Stale, StoreFull}
 use Rattle.world_model.specs.Texts.{Entry, entry_text, entries_text}
 use Rattle.world_model.specs.World.{World, Lined, line}
 use Rattle.world_model.specs.Run.{Run, run_from, after_line, goes_on, report_of, refusal_text, tables}
@@ -91,4 +91,5 @@ module _ (all : Run) (ls : List Line) (i : ℕ) (t : Told) (on : GoesOn all ls i
 pub report_stays : (x : Refusal) (old new : Known) → Remains x old new → new.told.report ≡ old.told.report
 report_stays (Unfit why) old new h = ap (λ (k : Known). k.told.report) h
 report_stays (HalfSpace number count) old new h = ap (λ (k : Known). k.told.report) h
+report_stays (Stale sent own) old new h = ap (λ (k : Known). k.told.report) h
 report_stays (StoreFull records) old new h = h.0

@@ -9,7 +9,7 @@ use Rattle.wire_base.specs.declared.why.Why.TheVariants as why
 use Rattle.pppoe_discovery.specs.declared.outcome.Discovered.{Discovered}
 use Rattle.end_model.specs.declared.event.Event.{Event}
 use Rattle.end_model.specs.declared.event.Event.TheVariants.{Datagram, Ring, Frame, Admitted, Payload, Lower, Lcp, Hang, OpenTunnel, DropCall, CloseTunnel, Tick}
-use Rattle.world_model.specs.declared.refusal.Refusal.TheVariants.{Unfit}
+use Rattle.world_model.specs.declared.refusal.Refusal.TheVariants.{Unfit, HalfSpace, Stale, StoreFull}
 use Rattle.end_model.specs.Calls.{is_lac}
 use Rattle.end_model.specs.declared.out.Out.{Out}
 use Rattle.end_model.specs.declared.out.Out.TheVariants.{Drop, Cause}
@@ -20,6 +20,7 @@ use Rattle.end_model.specs.Starting.{starts}
 use Rattle.world_model.specs.declared.refusal.Refusal.{Refusal}
 use Rattle.world_model.specs.Texts.{Entry, Drops, entry_text, entries_text}
 use Rattle.end_names.specs.Names.{address_of}
+use Rattle.id_table.specs.Ids.{at}
 use Rattle.world_model.specs.declared.packet.Packet.{Packet}
 use Rattle.world_model.specs.World.{World, Node, Sender, sender_of, arrival, refused_by, arrives, delivers_it, delivers, Lined, Committed, IsFull, IsCut, IsWhole, with_node, declared, lac_at, down_at, later, moved_all, shown, shown_all, entry_of, entries_of, given, after_step, commits, fallen, without_held, cut_line, settled, committed, stepped, block_of, retold, answer_entries, replies, enters, comes, comes_by, framed, opened, started}
 use Rattle.schedule_replay.specs.Counting.{ups_with, ups_after}
@@ -28,7 +29,7 @@ use Rattle.schedule_replay.specs.declared.fault.LineFault.TheVariants.{Refused, 
 use Rattle.schedule_replay.specs.declared.kinds.Moved.{Moved}
 use Rattle.schedule_replay.specs.declared.node.Unmade.{Unmade}
 use Rattle.schedule_replay.specs.declared.node.Unmade.TheVariants as unmade
-use Rattle.schedule_replay.specs.Fault.{Told, LeadsTo, Says}
+use Rattle.schedule_replay.specs.Fault.{Told, LeadsTo, Stays, Says}
 use Rattle.schedule_replay.specs.Kinds.{site_in}
 use Rattle.schedule_replay.specs.Serving.{SiteStep, by_served, step_with, site_step, site_start, end_step, site_commits, MakesStep, frames_unfit, start_unfit, reply_entries, moved_to, whole_line, served_by, served_line, served_at, start_served, IsPlain, ShowsMade}
 
@@ -195,13 +196,42 @@ sender_same w line n ev sender (Ok x) = by (commits x.checkpoint (contents_of x.
     by (IsCut k) = (refl, refl)
     by (IsWhole k) = (refl, refl)
 
+-- a node that is up is there
+pub there : (o : Option Node) (x : Node) → declared o ≡ Ok x → o ≡ Some x
+there None x is = absurd cc
+there (Some a) x is = by a.up is
+  where
+    by : (b : Bool) → (if b then Ok a else Err why.Down) ≡ Ok x → Some a ≡ Some x
+    by true e = let same : a ≡ x = cc in ap Some same
+    by false e = absurd cc
+
+-- why a packet is refused that reached a node, in each world in which the node is there
+abbrev pub RefusedSo : Option Refusal → Packet → Node → Type 0
+RefusedSo e packet node = (w : World) → at w.nodes packet.to ≡ Some node → e ≡ refused_by w packet node packet.origin
+
 -- a packet that reached a node that is up
 pub arrival_says : {T : Type 0} (r : Result T LineFault) (w : World) (line : ℕ) (p : Option Packet) (packet : Packet) (node : Node) (old new : Told)
-    → arrival w p ≡ Ok (packet, node) → None ≡ refused_by packet node packet.origin
+    → arrival w p ≡ Ok (packet, node) → declared (at w.nodes packet.to) ≡ Ok node → RefusedSo None packet node
     → Says r (stepped w line packet.to (Datagram (address_of packet.from) packet.bytes) None (Ok node)) old new → Says r (delivers w line p) old new
 unfolding delivers delivers_it arrives
-arrival_says r w line p packet node old new is free h =
-    rw (is, sym free) (same_says r _ _ old new (sender_same w line packet.to (Datagram (address_of packet.from) packet.bytes) (sender_of packet.from packet.origin) (Ok node)) h)
+arrival_says r w line p packet node old new is up free h =
+    rw (is, sym (free w (there (at w.nodes packet.to) node up)))
+    (same_says r _ _ old new
+    (sender_same w line packet.to (Datagram (address_of packet.from) packet.bytes) (sender_of packet.from packet.origin) (Ok node)) h)
+
+stays_same : (e : Refusal) (t : Told) → Stays e t t
+stays_same (Unfit x) t = refl
+stays_same (HalfSpace number count) t = refl
+stays_same (Stale sent own) t = refl
+stays_same (StoreFull records) t = (refl, refl)
+
+-- one that is refused there
+pub arrival_refused : (w : World) (line : ℕ) (p : Option Packet) (packet : Packet) (node : Node) (e : Refusal) (t : Told)
+    → arrival w p ≡ Ok (packet, node) → declared (at w.nodes packet.to) ≡ Ok node → RefusedSo (Some e) packet node
+    → (delivers w line p ≡ Err e) × Stays e t t
+unfolding delivers delivers_it arrives
+arrival_refused w line p packet node e t is up refused =
+    (rw (is, sym (refused w (there (at w.nodes packet.to) node up))) refl, stays_same e t)
 
 -- the clock of a node that is up goes on
 pub later_there : (milliseconds : ℕ) (o : Option Node) (a f x : Node) → o ≡ Some a → declared o ≡ Ok f
@@ -257,9 +287,9 @@ unfolding start_served served_line started committed site_start contents_of whol
 start_same w line n x = by _
   where
     by : (c : Committed)
-        → let v = site_start x.end.role x.end.config (block_of n line) x.checkpoint.book in
+        → let v = site_start x.end.role x.end.config x.clock (block_of n line) x.checkpoint.book in
         SameLine (served_by w line n (record x { up = true }) v c)
-        (settled w line n (opened (block_of n line) x) None (starts x.end.role x.end.config x.checkpoint.book) c)
+        (settled w line n (opened (block_of n line) x) None (starts x.end.role x.end.config x.checkpoint.book x.clock (block_of n line)) c)
     by (IsFull records) = refl
     by (IsCut k) = (refl, refl)
     by (IsWhole k) = (refl, append-nil _)
@@ -275,7 +305,8 @@ start_refused w line n (Some node) x e = by node.up e
     by false e = absurd cc
 
 pub start_says : {T : Type 0} (r : Result T LineFault) (w : World) (line n : ℕ) (x : Node) (o : Option Node) (old new : Told) → o ≡ Some x → start_unfit o ≡ None
-    → Says r (served_line w line n (record x { up = true }) (site_start x.end.role x.end.config (block_of n line) x.checkpoint.book)) old new
+    → Says r
+    (served_line w line n (record x { up = true }) (site_start x.end.role x.end.config x.clock (block_of n line) x.checkpoint.book)) old new
     → Says r (started w line n (down_at o)) old new
 unfolding start_served
 start_says r w line n x o old new is fits h = rw is (by x.up (subst (λ (q : Option Node). start_unfit q ≡ None) is fits))

@@ -2,7 +2,7 @@
 use Rattle.std.specs.Prelude.{◌≡◌, ℕ, List, [], ◌++◌, Bool, true, false, Result, Ok, Err}
 use Rattle.wire_base.specs.declared.bytes.NoMemory.{NoMemory as OutOfMemory}
 use Rattle.world_model.specs.declared.refusal.Refusal.{Refusal}
-use Rattle.world_model.specs.declared.refusal.Refusal.TheVariants.{Unfit, HalfSpace, StoreFull}
+use Rattle.world_model.specs.declared.refusal.Refusal.TheVariants.{Unfit, HalfSpace, Stale, StoreFull}
 use Rattle.world_model.specs.Texts.{entries_text}
 use Rattle.world_model.specs.World.{World, Lined, empty_world}
 use Rattle.world_model.specs.Run.{tables}
@@ -32,6 +32,7 @@ Leads (Err x) old new = ⊥
 abbrev pub Stays : Refusal → Told → Told → Type 0
 Stays (Unfit why) old new = new ≡ old
 Stays (HalfSpace number count) old new = new ≡ old
+Stays (Stale sent own) old new = new ≡ old
 Stays (StoreFull records) old new = (new.report ≡ old.report) × (new.ups ≡ old.ups)
 
 -- the line's outcome is this, or this is why the line is refused
@@ -56,6 +57,7 @@ new_known = record { told = new_told; spent = false }
 abbrev pub Remains : Refusal → Known → Known → Type 0
 Remains (Unfit why) old new = new ≡ old
 Remains (HalfSpace number count) old new = new ≡ old
+Remains (Stale sent own) old new = new ≡ old
 Remains (StoreFull records) old new = (new.told.report ≡ old.told.report) × (new.spent ≡ true)
 
 -- the same, of a world that answers want of memory for ever once it has answered it, or found no room for records

@@ -1,5 +1,5 @@
 -- What a step of a node's end gives, of either kind, and the line that it makes.
-use Rattle.std.specs.Prelude.{◌≡◌, ℕ, List, [], ◌∷◌, ◌++◌, true, false, if◌then◌else◌, Option, Some, None, is_some, Result, Ok, Err}
+use Rattle.std.specs.Prelude.{◌≡◌, ◌⊎◌, ℕ, List, [], ◌∷◌, ◌++◌, true, false, if◌then◌else◌, Option, Some, None, is_some, Result, Ok, Err}
 use Rattle.wire_base.specs.declared.letter.Side.{Side}
 use Rattle.wire_base.specs.declared.letter.Side.TheVariants as side
 use Rattle.wire_base.specs.declared.why.Why.{Why}
@@ -64,12 +64,12 @@ abbrev pub GivesSite : {F : Type 0} → Result Moved F → SiteStep → Site →
 GivesSite (Ok g) s old new = s ≡ record { site = new; outputs = g.outputs; moves = g.moves; reply = g.reply }
 GivesSite (Err e) s old new = new ≡ old
 
--- a start over a book
-unfoldable pub site_start : Role → Config → List ℕ → Kept → SiteStep
-site_start r c key k = record {
-  site = record { end = (starts r c k).end; access = access_over r key k };
-  outputs = (starts r c k).outputs;
-  moves = (starts r c k).moves;
+-- a start over a book, at a moment with a block, which a LAC's cookies are made with
+unfoldable pub site_start : Role → Config → ℕ → List ℕ → Kept → SiteStep
+site_start r c moment block k = record {
+  site = record { end = (starts r c k moment block).end; access = access_over r block k };
+  outputs = (starts r c k moment block).outputs;
+  moves = (starts r c k moment block).moves;
   reply = None;
 }
 
@@ -100,16 +100,13 @@ site_contents s v = contents_of s.end (end_step v)
 abbrev pub site_commits : Node → SiteStep → Committed
 site_commits x v = commits x.checkpoint (site_contents (site_in x) v)
 
--- the node after it, where all of them were committed, and where it fell, with this block
+-- the node after it, where all of them were committed
 abbrev pub after_site : Node → SiteStep → Checkpoint → Node
 after_site x v k = record x { end = v.site.end; access = v.site.access; checkpoint = k }
 
-abbrev pub fallen_site : List ℕ → Node → SiteStep → Checkpoint → Node
-fallen_site block x v k = fallen block (record x { end = v.site.end }) k
-
 -- why a node's step wasn't made, by the fault of its end's: where a stop cut it off, the node fell, and it is as before otherwise
 abbrev pub IsLeft : Unmade → StepFault CommitStop → List ℕ → Node → Node → Type 0
-IsLeft unmade.Cut (fault.Uncommitted stop.Cut) block old new = new ≡ fallen block old old.checkpoint
+IsLeft unmade.Cut (fault.Uncommitted stop.Cut) block old new = new ≡ fallen block old.end old old.checkpoint
 IsLeft unmade.Cut (fault.Uncommitted stop.NoMemory) block old new = ⊥
 IsLeft unmade.Cut (fault.Uncommitted stop.Differs) block old new = ⊥
 IsLeft unmade.Cut (fault.Uncommitted (stop.Full records)) block old new = ⊥
@@ -122,22 +119,29 @@ IsLeft (unmade.Full records) fault.NoMemory block old new = ⊥
 IsLeft unmade.NoMemory (fault.Uncommitted stop.NoMemory) block old new = new ≡ old
 IsLeft unmade.NoMemory (fault.Uncommitted stop.Differs) block old new = new ≡ old
 IsLeft unmade.NoMemory (fault.Uncommitted (stop.Full records)) block old new = ⊥
-IsLeft unmade.NoMemory (fault.Uncommitted stop.Cut) block old new = ⊥
+IsLeft unmade.NoMemory (fault.Uncommitted stop.Cut) block old new = new ≡ old
 IsLeft unmade.NoMemory fault.NoMemory block old new = new ≡ old
 
--- where a step wasn't made, and no stop cut it off, the node is as before
-abbrev pub IsAsBefore : {T : Type 0} → Result T Unmade → Node → Node → Type 0
-IsAsBefore (Ok x) old new = Unit {0}
-IsAsBefore (Err unmade.Cut) old new = Unit {0}
-IsAsBefore (Err (unmade.Full records)) old new = new ≡ old
-IsAsBefore (Err unmade.NoMemory) old new = new ≡ old
+-- what a checkpoint may be where memory was wanting in a step: as before, or as a stop left it that cut the step off
+abbrev pub MayLeave : Committed → Checkpoint → Checkpoint → Type 0
+MayLeave (IsFull records) old new = new ≡ old
+MayLeave (IsCut k) old new = (new ≡ old) ⊎ (new ≡ k)
+MayLeave (IsWhole k) old new = new ≡ old
+
+-- Where a step wasn't made, by what comes of its records, and no stop cut it off, the node is as before. Where one did, and memory was
+-- wanting for the fall, it is but for its checkpoint.
+abbrev pub IsAsBefore : {T : Type 0} → Result T Unmade → Committed → Node → Node → Type 0
+IsAsBefore (Ok x) c old new = Unit {0}
+IsAsBefore (Err unmade.Cut) c old new = Unit {0}
+IsAsBefore (Err (unmade.Full records)) c old new = new ≡ old
+IsAsBefore (Err unmade.NoMemory) c old new = (k : Checkpoint) × (new ≡ record old { checkpoint = k }) × MayLeave c old.checkpoint k
 
 -- a node's step is this, as far as memory sufficed
 abbrev pub MakesStep : Result Moved Unmade → List ℕ → SiteStep → Node → Node → Type 0
 MakesStep (Ok g) block v old new =
     (k : Checkpoint) × (site_commits old v ≡ IsWhole k) × (new ≡ after_site old v k)
     × (g.outputs ≡ v.outputs) × (g.moves ≡ v.moves) × (g.reply ≡ v.reply)
-MakesStep (Err unmade.Cut) block v old new = (k : Checkpoint) × (site_commits old v ≡ IsCut k) × (new ≡ fallen_site block old v k)
+MakesStep (Err unmade.Cut) block v old new = (k : Checkpoint) × (site_commits old v ≡ IsCut k) × (new ≡ fallen block old.end old k)
 MakesStep (Err (unmade.Full records)) block v old new = site_commits old v ≡ IsFull records
 MakesStep (Err unmade.NoMemory) block v old new = Unit {0}
 
@@ -174,7 +178,7 @@ whole_line w line n x v k = record {
 
 abbrev pub served_by : World → ℕ → ℕ → Node → SiteStep → Committed → Result Lined Refusal
 served_by w line n x v (IsFull records) = Err (StoreFull records)
-served_by w line n x v (IsCut k) = Ok (cut_line w line n (record x { end = v.site.end }) k)
+served_by w line n x v (IsCut k) = Ok (cut_line w line n x k)
 served_by w line n x v (IsWhole k) = Ok (whole_line w line n x v k)
 
 unfoldable pub served_line : World → ℕ → ℕ → Node → SiteStep → Result Lined Refusal
@@ -187,7 +191,7 @@ served_at w line n ev (Some x) = served_line w line n x (site_step (site_in x) x
 -- a node that starts, where it is down
 unfoldable pub start_served : World → ℕ → ℕ → Node → Result Lined Refusal
 start_served w line n x =
-    served_line w line n (record x { up = true }) (site_start x.end.role x.end.config (block_of n line) x.checkpoint.book)
+    served_line w line n (record x { up = true }) (site_start x.end.role x.end.config x.clock (block_of n line) x.checkpoint.book)
 
 -- an event that isn't of a LAC's access
 abbrev pub IsPlain : Event → Type 0

@@ -9,15 +9,13 @@ ghost use Rattle.end_core.specs.Fits.{fits};
 ghost use Rattle.step_ledger.specs.Committing.{Commits};
 ghost use Rattle.schedule_replay.specs.Serving.{site_step, site_start, site_contents, GivesSite};
 
-use end_core::End;
 use end_model::{Config, Event, Role};
-use lac_core::Lac;
+use lac_core::{End, Lac, Moves, Outputs};
 use lns_core::Lns;
 use session_book::Book;
 use std::alloc::Global;
 use std::marker::Model;
 use step_ledger::{BookedLedger, Ledger, StepFault};
-use tunnel_core::{Moves, Outputs};
 use wire_base::{Bytes, Why};
 
 /// What a step of a node's end gave.
@@ -129,21 +127,23 @@ impl NodeEnd {
         }
     }
 
-    /// The end starts over the book of its ledger.
+    /// The end starts over the book of its ledger, at a moment in milliseconds, with a block of random bytes, which a LAC makes its
+    /// cookies with.
     #[tactic(auto, unfolding(crate::specs::Serving::site_start))]
     pub(crate) fn start<L: BookedLedger>(
         &mut self,
         ledger: &mut L,
-        key: [u8; 16],
+        moment: u64,
+        block: [u8; 16],
     ) -> Result<Moved, StepFault<L::Stop>>
         requires ready { L.Ledger.can_commit ledger.old }
         requires lends { L.can_lend ledger.old }
-        ensures given { GivesSite result (site_start self.old.end.role self.old.end.config key (L.kept ledger.old)) self.old self.new }
-        ensures committed { Commits L.Ledger.commits_to result (site_contents self.old (site_start self.old.end.role self.old.end.config key (L.kept ledger.old))) ledger.old ledger.new }
+        ensures given { GivesSite result (site_start self.old.end.role self.old.end.config moment block (L.kept ledger.old)) self.old self.new }
+        ensures committed { Commits L.Ledger.commits_to result (site_contents self.old (site_start self.old.end.role self.old.end.config moment block (L.kept ledger.old))) ledger.old ledger.new }
     {
         let given = match &mut self.kind {
-            Kind::Lac(lac) => lac.start(ledger, key)?,
-            Kind::Lns(lns) => lns.start(ledger)?,
+            Kind::Lac(lac) => lac.start(ledger, moment, block, block)?,
+            Kind::Lns(lns) => lns.start(ledger, moment, block)?,
         };
         Ok(Moved {
             outputs: given.outputs,

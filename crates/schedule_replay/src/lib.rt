@@ -2,6 +2,7 @@
 #![tactic(auto)]
 
 mod carrying;
+mod epochs;
 mod fault;
 mod held;
 mod kinds;

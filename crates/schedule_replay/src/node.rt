@@ -1,23 +1,28 @@
 //! A node of the world.
 
-ghost use Rattle.std.specs.Prelude.{◌≡◌, ◌+◌, ◌-◌, ◌^◌, min, [], OnOk, IfOk, Ok, Some, true};
-ghost use Rattle.id_table.specs.Ids.{put};
+ghost use Rattle.std.specs.Prelude.{◌≡◌, ◌+◌, ◌-◌, ◌^◌, min, [], unwrap_or, option_map, OnOk, OnErr, IfOk, Ok, Some, true};
+ghost use Rattle.std.specs.Option.{option_copied};
+ghost use Rattle.std.specs.List.{AllByRecursion};
+ghost use Rattle.id_table.specs.Ids.{at, put, ids_of};
+ghost use Rattle.id_table.specs.Tables.{HasRoom};
+ghost use Rattle.lac_core.specs.Cores.{tunnel_of};
 ghost use Rattle.end_model.specs.Calls.{is_lac};
 ghost use Rattle.end_model.specs.Access.{access_with};
 ghost use Rattle.end_model.specs.End.{new_end};
-ghost use Rattle.world_model.specs.World.{config_of, count_at, new_checkpoint, with_stop, fallen};
+ghost use Rattle.world_model.specs.World.{config_of, count_at, new_checkpoint, with_stop, fallen, no_standing, standing_in, answer_in, lost_with, loses_counts};
 ghost use Rattle.schedule_replay.specs.Kinds.{site_in};
-ghost use Rattle.schedule_replay.specs.Serving.{kind_of, site_step, site_start, IsLeft, IsAsBefore, MakesStep, OpensAt};
+ghost use Rattle.schedule_replay.specs.Serving.{kind_of, site_step, site_start, site_commits, IsLeft, IsAsBefore, MakesStep, OpensAt};
 
 use crate::kinds::{Moved, NodeEnd};
 use end_model::{Config, Event, Role, address_of};
 use id_table::Table;
+use lac_core::{End, TunnelCore};
 use std::alloc::Global;
 use std::marker::Model;
 use step_ledger::{BookedLedger, StepFault};
 use wire_base::{Bytes, NoMemory as OutOfMemory};
 use world_checkpoint::{Checkpoint, CommitStop};
-use world_model::StopAt;
+use world_model::{Counts, Standing, StopAt};
 
 /// Why a step of a node wasn't made.
 #[derive(Clone, Copy)]
@@ -26,18 +31,25 @@ pub(crate) enum Unmade {
     Cut,
     /// The checkpoint has so many records, and no room for those of the step. The node is as before.
     Full { records: u32 },
-    /// Memory was wanting, or the node's disk had another number of records behind a stop than was due. The node is as before.
+    /// Memory was wanting, or the node's disk had another number of records behind a stop than was due. The node is as before, but for its
+    /// checkpoint where a stop cut the step off and memory was wanting for the fall.
     NoMemory,
 }
 
-/// An end, and whether it is up, with its clock, in milliseconds, the births of its calls by local session id, and its checkpoint.
+/// An end, and whether it is up, with its clock, in milliseconds, the births of its calls by local session id, its checkpoint, and what is
+/// counted of its tunnels over crashes.
 #[derive(Drop)]
 pub(crate) struct Node {
+    alloc: Global,
     pub(crate) end: NodeEnd,
     pub(crate) up: bool,
     pub(crate) clock: u64,
     pub(crate) births: Table<u64>,
     checkpoint: Checkpoint,
+    /// What is counted of its tunnels, by their local ids.
+    standings: Table<Standing>,
+    /// The epoch that each of its answers to an attempt makes, by the answer's local id.
+    answers: Table<u64>,
 }
 
 impl Model for Node {
@@ -46,7 +58,7 @@ impl Model for Node {
 
     ghost Value = { Known };
 
-    ghost view = { λ n. record { end = n.end.end; up = n.up; clock = n.clock; births = n.births.entries; access = n.end.access; checkpoint = n.checkpoint.known } };
+    ghost view = { λ n. record { end = n.end.end; up = n.up; clock = n.clock; births = n.births.entries; access = n.end.access; checkpoint = n.checkpoint.known; standings = n.standings.entries; answers = n.answers.entries } };
 
     ghost invariant = { λ n. IsFileOf n.end.end n.checkpoint };
 }
@@ -78,6 +90,64 @@ pub(crate) fn count_at(counts: &Table<u64>, id: u32) -> u64
     counts.get(id).copied().unwrap_or(0)
 }
 
+/// Of a tunnel of which nothing was counted yet.
+const NO_STANDING: Standing = Standing {
+    epoch: 0,
+    made: 0,
+    lost: None,
+};
+
+/// What is counted of a tunnel with this local id.
+fn standing_at(standings: &Table<Standing>, tunnel: u32) -> Standing
+    ensures { result ≡ unwrap_or (at standings.now.entries tunnel) no_standing }
+{
+    standings.get(tunnel).copied().unwrap_or(NO_STANDING)
+}
+
+/// Makes room for what is counted of each of these tunnels.
+fn make_standings(standings: &mut Table<Standing>, tunnels: &[u32]) -> Result<(), OutOfMemory>
+    ensures same { standings.new.entries ≡ standings.old.entries }
+    ensures room { OnOk result (AllByRecursion (λ i. HasRoom standings.new i) tunnels.now) }
+{
+    for tunnel in tunnels {
+        standings.make_room(*tunnel)?;
+    }
+    Ok(())
+}
+
+/// What is counted of a tunnel whose channel is lost.
+fn lost_with(tunnel: Option<&TunnelCore>, standing: Standing) -> Standing
+    ensures { result ≡ lost_with (option_map tunnel_of (option_copied tunnel.entry)) standing }
+{
+    let Some(tunnel) = tunnel else {
+        return standing;
+    };
+    if standing.lost.is_some() {
+        return standing;
+    }
+    let channel = &tunnel.control().channel;
+    Standing {
+        epoch: standing.epoch,
+        made: standing.made,
+        lost: Some(Counts {
+            taken: channel.taken_count(),
+            acked: channel.acked_count(),
+        }),
+    }
+}
+
+/// The channels of these tunnels of an end are lost. It takes no memory.
+#[tactic(auto, unfolding(world_model::specs::World::loses_counts))]
+fn lose_all(standings: &mut Table<Standing>, end: &End, tunnels: &[u32])
+    requires { AllByRecursion (λ i. HasRoom standings.old i) tunnels.now }
+    ensures { standings.new.entries ≡ loses_counts end.now tunnels.now standings.old.entries }
+{
+    for tunnel in tunnels {
+        let after = lost_with(end.tunnel(*tunnel), standing_at(standings, *tunnel));
+        standings.fill(*tunnel, after);
+    }
+}
+
 /// The kind that the journal of an end tells.
 fn kind_of(role: Role) -> u8
     ensures { result ≡ kind_of role }
@@ -96,15 +166,18 @@ impl Node {
         config: Config,
         key: [u8; 16],
     ) -> Result<Node, OutOfMemory>
-        ensures { IfOk result (λ n. n ≡ record { end = new_end role config; up = true; clock = 0; births = []; access = access_with role key; checkpoint = new_checkpoint }) }
+        ensures { IfOk result (λ n. n ≡ record { end = new_end role config; up = true; clock = 0; births = []; access = access_with role key; checkpoint = new_checkpoint; standings = []; answers = [] }) }
     {
         let checkpoint = Checkpoint::new(alloc, kind_of(role), config.number)?;
         Ok(Node {
+            alloc,
             end: NodeEnd::new(alloc, role, config, key),
             up: true,
             clock: 0,
             births: Table::new(alloc),
             checkpoint,
+            standings: Table::new(alloc),
+            answers: Table::new(alloc),
         })
     }
 
@@ -126,7 +199,7 @@ impl Node {
     #[tactic(auto, using(crate::proofs::Nodes::step_made, crate::proofs::Nodes::step_left, crate::proofs::Nodes::left_as_before))]
     pub(crate) fn step(&mut self, block: [u8; 16], event: &Event) -> Result<Moved, Unmade>
         ensures made { MakesStep result block (site_step (site_in self.old) self.old.clock block event.now) self.old self.new }
-        ensures as_before { IsAsBefore result self.old self.new }
+        ensures as_before { IsAsBefore result (site_commits self.old (site_step (site_in self.old) self.old.clock block event.now)) self.old self.new }
     {
         match self
             .end
@@ -147,10 +220,10 @@ impl Node {
             } => Unmade::Full { records },
             StepFault::Uncommitted {
                 stop: CommitStop::Cut,
-            } => {
-                self.fall(block);
-                Unmade::Cut
-            }
+            } => match self.fall(block) {
+                Ok(()) => Unmade::Cut,
+                Err(_) => Unmade::NoMemory,
+            },
             StepFault::NoMemory
             | StepFault::Uncommitted {
                 stop: CommitStop::NoMemory | CommitStop::Differs,
@@ -158,23 +231,71 @@ impl Node {
         }
     }
 
-    /// All but the checkpoint is lost, and a stop is armed no more.
+    /// All but the checkpoint is lost, and a stop is armed no more. What the channels of its tunnels had counted stays known. Where memory
+    /// is wanting for that, the node is as before.
     #[tactic(auto, unfolding(world_model::specs::World::fallen))]
-    pub(crate) fn fall(&mut self, block: [u8; 16])
-        ensures { self.new ≡ fallen block self.old self.old.checkpoint }
+    pub(crate) fn fall(&mut self, block: [u8; 16]) -> Result<(), OutOfMemory>
+        ensures ok { OnOk result (self.new ≡ fallen block self.old.end self.old self.old.checkpoint) }
+        ensures err { OnErr result (self.new ≡ self.old) }
     {
+        self.lose_counts()?;
         self.end.fall(block, self.checkpoint.book());
         self.up = false;
         self.checkpoint.disarm();
+        Ok(())
+    }
+
+    /// What the channels of its tunnels have counted is kept where they are lost. Where memory is wanting, the node is as before.
+    fn lose_counts(&mut self) -> Result<(), OutOfMemory>
+        ensures ok { OnOk result (self.new ≡ record self.old { standings = loses_counts self.old.end (ids_of self.old.end.tunnels) self.old.standings }) }
+        ensures err { OnErr result (self.new ≡ self.old) }
+    {
+        let end = self.end.end();
+        let ids = end.tunnel_ids(self.alloc)?;
+        make_standings(&mut self.standings, ids.as_slice())?;
+        lose_all(&mut self.standings, end, ids.as_slice());
+        Ok(())
+    }
+
+    /// What is counted of a tunnel with this local id.
+    pub(crate) fn standing(&self, tunnel: u32) -> Standing
+        ensures { result ≡ standing_in (Some self.now) tunnel }
+    {
+        standing_at(&self.standings, tunnel)
+    }
+
+    /// Of a tunnel this is counted.
+    pub(crate) fn set_standing(
+        &mut self,
+        tunnel: u32,
+        standing: Standing,
+    ) -> Result<(), OutOfMemory>
+        ensures { OnOk result (self.new ≡ record self.old { standings = put self.old.standings tunnel standing }) }
+    {
+        self.standings.insert(tunnel, standing)
+    }
+
+    /// The epoch that an answer with this local id makes, 0 where there is none.
+    pub(crate) fn answer(&self, answer: u16) -> u64
+        ensures { result ≡ answer_in (Some self.now) answer }
+    {
+        count_at(&self.answers, u32::from(answer))
+    }
+
+    /// An answer makes this epoch.
+    pub(crate) fn set_answer(&mut self, answer: u16, epoch: u64) -> Result<(), OutOfMemory>
+        ensures { OnOk result (self.new ≡ record self.old { answers = put self.old.answers answer epoch }) }
+    {
+        self.answers.insert(u32::from(answer), epoch)
     }
 
     /// The node starts over its checkpoint.
     #[tactic(auto, using(crate::proofs::Nodes::step_made, crate::proofs::Nodes::step_left, crate::proofs::Nodes::left_as_before))]
     pub(crate) fn start(&mut self, block: [u8; 16]) -> Result<Moved, Unmade>
-        ensures made { MakesStep result block (site_start self.old.end.role self.old.end.config block self.old.checkpoint.book) (record self.old { up = true }) self.new }
-        ensures as_before { IsAsBefore result self.old self.new }
+        ensures made { MakesStep result block (site_start self.old.end.role self.old.end.config self.old.clock block self.old.checkpoint.book) (record self.old { up = true }) self.new }
+        ensures as_before { IsAsBefore result (site_commits self.old (site_start self.old.end.role self.old.end.config self.old.clock block self.old.checkpoint.book)) self.old self.new }
     {
-        match self.end.start(&mut self.checkpoint, block) {
+        match self.end.start(&mut self.checkpoint, self.clock, block) {
             Ok(moved) => {
                 self.up = true;
                 Ok(moved)

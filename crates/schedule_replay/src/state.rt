@@ -1,10 +1,10 @@
 //! The world's state, and what a line does to it.
 
-ghost use Rattle.std.specs.Prelude.{◌≡◌, ◌==◌, ◌++◌, ◌+◌, length, false, count_by, OnOk, IfOk, IfSome, MatchResult, IsSome, is_some, IsOk, slice_get, Ok, Err, None, Some, Option};
+ghost use Rattle.std.specs.Prelude.{◌≡◌, ◌==◌, ◌++◌, ◌+◌, length, false, ℕ, count_by, OnOk, IfOk, IfSome, MatchResult, IsSome, is_some, IsOk, slice_get, Ok, Err, None, Some, Option};
 ghost use Rattle.id_table.specs.Ids.{at};
-ghost use Rattle.end_names.specs.Names.{address_of};
+ghost use Rattle.end_names.specs.Names.{address_of, node_of};
 ghost use Rattle.world_model.specs.Texts.{send_text, entry_text, entries_text};
-ghost use Rattle.world_model.specs.World.{sent, birth_of, with_birth, is_born, moved, moved_all, shown, shown_all, entry_of, entries_of, declared, lac_at, lns_at, down_at, with_call, later, added, block_of, stepped, arrival, refused_by, delivers, farewell_in, framed, loads, crashed, armed, started, line as line_of};
+ghost use Rattle.world_model.specs.World.{World, standing_of, epoch_sent, too_old, sent, birth_of, with_birth, is_born, moved, moved_all, shown, shown_all, entry_of, entries_of, declared, lac_at, lns_at, down_at, with_call, later, added, block_of, stepped, arrival, refused_by, delivers, farewell_in, framed, loads, crashed, armed, started, line as line_of};
 ghost use Rattle.world_model.specs.Run.{tables};
 ghost use Rattle.schedule_replay.specs.Counting.{ups_with, ups_after, agreements_of};
 ghost use Rattle.schedule_replay.specs.Fault.{new_told, Says};
@@ -17,17 +17,17 @@ use crate::kinds::Moved;
 use crate::node::{Node, Unmade, config_of, copy_secret, count_at};
 use crate::tables::{push_agreement_table, push_end_table};
 use byteorder::{BigEndian, ByteOrder};
-use end_model::{Event, Move, Origin, Out, Role, address_of, node_of};
+use end_model::{Control, ControlOrigin, Event, Move, Origin, Out, Role, address_of, node_of};
 use id_table::Table;
 use l2tp_datagram::Datagram;
+use lac_core::Outputs;
 use report_text::{
-    push_cause, push_drop, push_farewell, push_frame, push_gone, push_send, push_stopped, push_up,
-    too_old,
+    is_past, push_cause, push_drop, push_farewell, push_frame, push_gone, push_send, push_stopped,
+    push_up,
 };
 use schedule_text::Line;
 use std::alloc::Global;
 use std::marker::Model;
-use tunnel_core::Outputs;
 use wire_base::{Bytes, NoMemory, Sequence, Why};
 use world_model::{Packet, Refusal, StopAt};
 
@@ -131,12 +131,14 @@ impl State {
         ensures ups { self.new.ups ≡ self.old.ups }
     {
         let number = self.packets.as_slice().len() as u64 + 1;
+        let epoch = self.epoch_sent(from, &origin);
         push_send(&mut self.report, line, number, from, to, bytes.as_slice())?;
         self.packets.push(Packet {
             from,
             to,
             bytes,
             origin,
+            epoch,
         })
     }
 
@@ -235,7 +237,7 @@ impl State {
         self.set_birth(node, session, self.born)
     }
 
-    /// A move of a node: it may give a birth to a call.
+    /// A move of a node: it may give a birth to a call, or an epoch to a tunnel.
     #[tactic(auto, unfolding(world_model::specs::World::moved))]
     fn follow(&mut self, node: u8, done: &Move) -> Result<(), NoMemory>
         ensures world { OnOk result (self.new.world ≡ moved node self.old.world done.now) }
@@ -247,6 +249,15 @@ impl State {
             Move::Replied(replied) => {
                 let birth = self.birth_of(node_of(replied.peer), replied.remote);
                 self.set_birth(node, replied.session, birth)
+            }
+            Move::Froze(froze) => self.make_epoch(node, froze),
+            Move::ResetAttempting(reset) => {
+                let epoch = self.answer(node_of(reset.peer), reset.answer);
+                self.enter_epoch(node, reset.tunnel, epoch)
+            }
+            Move::ResetAnswering(reset) => {
+                let epoch = self.answer(node, reset.answer);
+                self.enter_epoch(node, reset.tunnel, epoch)
             }
             _ => Ok(()),
         }
@@ -514,7 +525,7 @@ impl State {
         let Some(at) = self.nodes.get_mut(u32::from(node)) else {
             unreachable!()
         };
-        at.fall(block_of(node, line));
+        at.fall(block_of(node, line))?;
         self.held.remove(u32::from(node));
         Ok(())
     }
@@ -660,6 +671,21 @@ fn copy_of(alloc: Global, packet: &Packet) -> Result<Datagram, NoMemory>
     Ok(Datagram::read(alloc, bytes))
 }
 
+/// Why a control message that was sent in this epoch is refused by the tunnel of a node that it is for, if it is.
+#[tactic(auto, unfolding(world_model::specs::World::too_old, world_model::specs::World::standing_of))]
+fn too_old(
+    epoch: u64,
+    origin: &ControlOrigin,
+    node: &Node,
+    tunnel: Option<Control>,
+) -> Option<Refusal>
+    ensures { (w : World) (n : ℕ) → at w.nodes n ≡ Some node.now → result ≡ too_old epoch origin.now w n tunnel }
+{
+    let tunnel = tunnel?;
+    let standing = node.standing(u32::from(tunnel.local));
+    is_past(epoch, origin, standing, &tunnel)
+}
+
 /// Why a packet is refused by the node that it is for, if it is.
 #[tactic(auto, unfolding(world_model::specs::World::refused_by))]
 fn refused_by(
@@ -668,14 +694,14 @@ fn refused_by(
     node: &Node,
 ) -> Result<Option<Refusal>, NoMemory>
     requires { datagram.now ≡ packet.now.bytes }
-    ensures { IfOk result (λ r. r ≡ refused_by packet.now node.now packet.now.origin) }
+    ensures { IfOk result (λ r. (w : World) → at w.nodes packet.now.to ≡ Some node.now → r ≡ refused_by w packet.now node.now packet.now.origin) }
 {
     match &packet.origin {
         Origin::Control(origin) => {
             let reached = node.end.end().reached(address_of(packet.from), datagram)?;
-            Ok(too_old(origin, reached))
+            Ok(too_old(packet.epoch, origin, node, reached))
         }
-        Origin::Data { .. } => Ok(None),
+        Origin::Recovery { .. } | Origin::Data { .. } => Ok(None),
     }
 }
 

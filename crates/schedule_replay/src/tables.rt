@@ -3,15 +3,16 @@
 ghost use Rattle.std.specs.Prelude.{◌≡◌, ◌++◌, option_map, OnOk, Some};
 ghost use Rattle.std.specs.Option.{option_copied};
 ghost use Rattle.id_table.specs.Ids.{at};
-ghost use Rattle.world_model.specs.Run.{call_table, tunnel_line, node_table, end_table, lns_tunnel, partner_of, agree, session_count, agree_with, agree_line, node_agreements, agreement_table};
-ghost use Rattle.tunnel_core.specs.Cores.{tunnel_of};
+ghost use Rattle.world_model.specs.Run.{call_table, tunnel_line, node_table, end_table, lns_tunnel, partner_of, are_alike, session_count, agree_with, agree_line, node_agreements, agreement_table};
+ghost use Rattle.world_model.specs.World.{standing_in};
+ghost use Rattle.lac_core.specs.Cores.{tunnel_of};
 
 use crate::node::{Node, count_at};
 use end_model::{Call, Control, node_of};
 use id_table::Table;
-use report_text::{agree, push_agree, push_call, push_down, push_tunnel, session_count};
+use lac_core::TunnelCore;
+use report_text::{agree, carries, push_agree, push_call, push_down, push_tunnel, session_count};
 use std::alloc::Global;
-use tunnel_core::TunnelCore;
 use wire_base::{Bytes, NoMemory};
 
 /// The calls of a tunnel, by local id.
@@ -42,14 +43,15 @@ fn push_tunnel_line(
     alloc: Global,
     out: &mut Bytes,
     number: u32,
-    births: &Table<u64>,
+    node: &Node,
     id: u32,
     tunnel: &TunnelCore,
 ) -> Result<(), NoMemory>
-    ensures { OnOk result (out.new ≡ out.old ++ tunnel_line number births.now.entries id (Some (tunnel_of tunnel.now))) }
+    ensures { OnOk result (out.new ≡ out.old ++ tunnel_line number node.now id (Some (tunnel_of tunnel.now))) }
 {
-    push_tunnel(out, number, tunnel.control())?;
-    push_call_table(alloc, out, number, id, births, tunnel.calls())
+    let epoch = node.standing(id).epoch;
+    push_tunnel(out, number, tunnel.control(), epoch, tunnel.mode())?;
+    push_call_table(alloc, out, number, id, &node.births, tunnel.calls())
 }
 
 /// The tunnels of a node with their calls, by local id, or that it is down.
@@ -63,7 +65,7 @@ fn push_node_table(alloc: Global, out: &mut Bytes, number: u32, node: &Node) -> 
     let ids = node.end.end().tunnel_ids(alloc)?;
     for id in ids.as_slice() {
         if let Some(tunnel) = node.end.end().tunnel(*id) {
-            push_tunnel_line(alloc, out, number, &node.births, *id, tunnel)?;
+            push_tunnel_line(alloc, out, number, node, *id, tunnel)?;
         }
     }
     Ok(())
@@ -99,6 +101,29 @@ fn partner<'a>(nodes: &'a Table<Node>, tunnel: &Control) -> Option<&'a TunnelCor
     node.end.end().tunnel(u32::from(tunnel.remote))
 }
 
+/// The epoch that a tunnel of a node is in.
+fn epoch_in(nodes: &Table<Node>, node: u32, tunnel: u16) -> u64
+    ensures { result ≡ (standing_in (at nodes.now.entries node) tunnel).epoch }
+{
+    match nodes.get(node) {
+        Some(node) => node.standing(u32::from(tunnel)).epoch,
+        None => 0,
+    }
+}
+
+/// Whether a LAC's tunnel and its partner carry messages, are in the same epoch, and agree.
+fn are_alike(nodes: &Table<Node>, number: u32, tunnel: &TunnelCore, partner: &TunnelCore) -> bool
+    ensures { result ≡ are_alike nodes.now.entries number (tunnel_of tunnel.now) (tunnel_of partner.now) }
+{
+    let (control, other) = (tunnel.control(), partner.control());
+    let own = epoch_in(nodes, number, control.local);
+    let theirs = epoch_in(nodes, u32::from(node_of(control.peer)), other.local);
+    carries(tunnel.mode())
+        && carries(partner.mode())
+        && own == theirs
+        && agree(number, control, other)
+}
+
 /// The line of a LAC's tunnel that agrees with its partner.
 #[tactic(auto, unfolding(world_model::specs::Run::agree_line, world_model::specs::Run::agree_with))]
 fn push_agree_line(
@@ -112,7 +137,7 @@ fn push_agree_line(
 {
     let control = tunnel.control();
     match partner(nodes, control) {
-        Some(partner) if agree(number, control, partner.control()) => {
+        Some(partner) if are_alike(nodes, number, tunnel, partner) => {
             let count = session_count(alloc, tunnel.calls())?;
             push_agree(out, number, control, partner.control(), count as u64)
         }

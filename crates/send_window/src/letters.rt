@@ -1,12 +1,12 @@
 //! The letters of a channel, without their numbers.
 
-ghost use Rattle.std.specs.Prelude.{◌≡◌, ◌<◌, ◌≤◌, length, OnOk, OnErr, IsOk, option_copied};
+ghost use Rattle.std.specs.Prelude.{◌≡◌, ◌<◌, ◌≤◌, length, IfOk, OnOk, OnErr, IsOk, option_copied};
 ghost use Rattle.send_window.specs.Queue.{no_letters, reserved, put_into, dropped_first, cleared, letter_in};
 
 use std::alloc::Global;
 use std::collections::VecDeque;
 use std::marker::Model;
-use wire_base::{Letter, NoMemory};
+use wire_base::{Bytes, Letter, NoMemory};
 
 /// The letters of a channel that are unacknowledged or unsent, in the order of their numbers. Room for letters can be made
 /// ahead, and putting a letter in then takes no memory. A call takes constant time, `reserve` where it is spread over the
@@ -27,6 +27,17 @@ impl Model for Letters {
     ghost view = { λ l. record { letters = l.kept.items; spare = l.spare } };
 
     ghost invariant = { λ l. length l.kept.items + l.spare ≤ deque_capacity l.kept };
+}
+
+// A copy of a letter.
+fn copy_letter(alloc: Global, letter: &Letter) -> Result<Letter, NoMemory>
+    ensures { IfOk result (λ copy. copy ≡ letter.now) }
+{
+    let avps = Bytes::from_slice(alloc, letter.avps.as_slice())?;
+    Ok(Letter {
+        session: letter.session,
+        avps,
+    })
 }
 
 impl Letters {
@@ -101,5 +112,23 @@ impl Letters {
         ensures { result ≡ length self.now.letters }
     {
         self.kept.len()
+    }
+
+    /// A copy, with as much room: a step is planned on it, and where memory is wanting, nothing has changed. It takes a time in
+    /// proportion to the bytes of the letters.
+    pub fn copy(&self, alloc: Global) -> Result<Letters, NoMemory>
+        ensures { IfOk result (λ copy. copy ≡ self.now) }
+    {
+        let mut copy = Letters::new(alloc);
+        for place in 0..self.kept.len() {
+            let Some(letter) = self.kept.get(place) else {
+                unreachable!()
+            };
+            let letter = copy_letter(alloc, letter)?;
+            copy.reserve(1)?;
+            copy.put(letter);
+        }
+        copy.reserve(self.spare)?;
+        Ok(copy)
     }
 }

@@ -1,6 +1,6 @@
 //! The letters of a channel that are unacknowledged or unsent.
 
-ghost use Rattle.std.specs.Prelude.{◌≡◌, ◌<◌, ◌≤◌, ◌↔◌, ◌+◌, ◌%◌, ◌^◌, ℕ, length, OnOk, OnErr, IsOk, IfSome};
+ghost use Rattle.std.specs.Prelude.{◌≡◌, ◌<◌, ◌≤◌, ◌↔◌, ◌+◌, ◌%◌, ◌^◌, ℕ, length, IfOk, OnOk, OnErr, IsOk, IfSome};
 ghost use Rattle.send_window.specs.Window.{count_acked, next_to_go, answer_to_tick, next_unsent, next_given, Holds, HoldsRepeated};
 ghost use Rattle.send_window.specs.Outbox.{emptied, reserved, put_into, acked_at, let_go_at, ticked_at, reset_at, learnt_by, letter_at};
 
@@ -171,5 +171,17 @@ impl Outbox {
         ensures few { result ≤ 8192 }
     {
         self.window.queued()
+    }
+
+    /// A copy, with as much room: a step is planned on it, and where memory is wanting, nothing has changed. It takes a time in
+    /// proportion to the bytes of the letters.
+    pub fn copy(&self, alloc: Global) -> Result<Outbox, NoMemory>
+        ensures { IfOk result (λ copy. copy ≡ self.now) }
+    {
+        let letters = self.letters.copy(alloc)?;
+        Ok(Outbox {
+            letters,
+            window: self.window,
+        })
     }
 }

@@ -159,6 +159,16 @@ impl Book {
         }
     }
 
+    /// What stands together in a book, a law: its ceilings are within their spaces; its tunnels and calls stand in the order of their ids,
+    /// none of which is 0 or above its ceiling; each tunnel has a peer's id and a window that aren't 0; each call is over a tunnel of the
+    /// book; and there are at most 1,024 tunnels, each with at most 4,096 calls.
+    pub fn is_whole(&self)
+        ensures { IsWhole self.now.kept }
+    {
+        // A look at a field tells the proof the book's invariant.
+        let _ = &self.tunnels;
+    }
+
     /// For how many further contents there is room.
     pub fn spare(&self) -> u32
         ensures { result ≡ self.now.spare }

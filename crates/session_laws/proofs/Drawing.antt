@@ -1,7 +1,5 @@
 -- Ids that are drawn are new ones.
-use Rattle.std.proofs.Common.{◌≡◌, ℕ, ◌+◌, ◌-◌, ◌<◌, ◌≤◌, Bool, true, false, cond, refl, sym, Option, Some, None, Ok, Err, arith}
-use Rattle.std.proofs.lemmas.Bool.{ltb-false}
-use Rattle.std.specs.Prelude.{nat_lt}
+use Rattle.std.proofs.Common.{◌≡◌, ℕ, ◌<◌, ◌≤◌, refl, Option, Some, None, Ok, arith}
 use Rattle.id_source.specs.Spaces.{takes_id, draw_is}
 use Rattle.id_table.specs.Ids.{at}
 use Rattle.end_model.specs.declared.event.Event.{Event}

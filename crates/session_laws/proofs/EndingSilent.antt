@@ -10,7 +10,8 @@ use Rattle.end_model.specs.declared.moves.EndSilent.{EndSilent}
 use Rattle.end_model.specs.declared.moves.Move.TheVariants as move
 use Rattle.end_model.specs.declared.tunnel.Call.{Call}
 use Rattle.end_names.specs.declared.role.Role.TheVariants.{Lac}
-use Rattle.end_model.specs.Tunnels.{Tunnel}
+use Rattle.end_model.specs.Calls.{row_for, is_told, is_clean_up}
+use Rattle.end_model.specs.Tunnels.{Tunnel, mode_of, is_current}
 use Rattle.end_model.specs.End.{End}
 use Rattle.world_model.specs.World.{Sender, Deed}
 use Rattle.step_laws.specs.Moves.{InTunnel, WhyEnds, IsLate, IsDropped, IsHungUp, IsAsked, IsReplied, IsConnected, IsEnded, HasFault, fault_event}
@@ -20,6 +21,7 @@ use Rattle.epoch_machine.specs.Calls.{NoCall, Waits, is_call}
 use Rattle.epoch_machine.specs.Worlds.{World, all_rules}
 use Rattle.epoch_machine.specs.Moves.{EndsSilent, step, may_end_silent, ends_call}
 use Rattle.end_model.specs.Reading.{CallFault}
+use Rattle.frame_laws.specs.Unrecovered.{none_is_current}
 use Rattle.session_laws.proofs.Alike.{alike_giver}
 use Rattle.connection_laws.specs.Facts.{Accounts, LiveOk}
 use Rattle.connection_laws.specs.Steps.{after}
@@ -136,9 +138,17 @@ module _ (laws : Laws) (accs : Accounts) (ends : Ends) (w : World) (n : ℕ) (e 
   waits_by (OnFaultyConnection on) (IsConnected speed framing sequenced hears is result error) = absurd cc
   waits_by (OnCdn on) (IsConnected speed framing sequenced hears is result error) = absurd cc
 
+  -- the tunnel has no recovery tunnel: so it isn't that nobody may be told
+  clean : is_clean_up (row_for e.role c h.moved.does.on).1 ≡ true
+  clean = ⊎_elim
+      (λ row. row)
+      (λ (k : (is_told (row_for e.role c h.moved.does.on).1 ≡ true) × (is_current (mode_of t.recovery) ≡ false)).
+      absurd (none_is_current t live.recovery k.1))
+      h.moved.does.row
+
   does : step all_rules w (EndsSilent Z) ≡ v
   does = silent_is w Z (call.state
-      ∙ waits_by (silent_row e.role c.state h.moved.does.on (old.roles i t h.moved.does.there s c h.moved.does.live) h.moved.does.row) h.moved.does.why)
+      ∙ waits_by (silent_row e.role c.state h.moved.does.on (old.roles i t h.moved.does.there s c h.moved.does.live) clean) h.moved.does.why)
 
   says : AccountSpeaks (accs n i) (after accs d n i) [] 0
   says = says_nothing (accs n i) (after accs d n i)

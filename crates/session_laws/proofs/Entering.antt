@@ -62,6 +62,7 @@ else_none (move.Negotiated m) is = λ k j. refl
 else_none (move.Counted m) is = λ k j. refl
 else_none (move.FrameSent m) is = λ k j. refl
 else_none (move.FrameUp m) is = λ k j. refl
+else_none m is = λ k j. refl
 
 after_there : (accs : Accounts) (d : Deed) (m j : ℕ) → declines_of d.move m j ≡ false → ((m ≡ d.node) × (j ≡ about d.move) → ⊥)
     → after accs d m j ≡ accs m j

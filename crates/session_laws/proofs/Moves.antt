@@ -53,3 +53,4 @@ moves_follow laws accs ends w n e x sender moment ev (move.Negotiated m) d h = n
 moves_follow laws accs ends w n e x sender moment ev (move.Counted m) d h = counted_follows accs ends w n e x sender moment ev m d h
 moves_follow laws accs ends w n e x sender moment ev (move.FrameSent m) d h = frame_sent_follows laws accs ends w n e x sender moment ev m d h
 moves_follow laws accs ends w n e x sender moment ev (move.FrameUp m) d h = frame_up_follows laws accs ends w n e x sender moment ev m d h
+moves_follow laws accs ends w n e x sender moment ev m d h = absurd h.moved.main

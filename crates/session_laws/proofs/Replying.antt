@@ -5,7 +5,6 @@ use Rattle.id_source.specs.Spaces.{Space, draw_is, next_is}
 use Rattle.id_table.specs.Ids.{put}
 use Rattle.id_table.specs.Order.{same_or_not, at_new, at_other}
 use Rattle.control_message.specs.declared.message.Message.TheVariants.{Icrq, Icrp}
-use Rattle.call_fsm.specs.declared.table.CallState.TheVariants as call_state
 use Rattle.call_fsm.specs.declared.table.CallEvent.TheVariants as call_event
 use Rattle.end_model.specs.declared.event.Event.{Event}
 use Rattle.end_model.specs.declared.moves.Replied.{Replied}

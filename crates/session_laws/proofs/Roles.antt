@@ -191,6 +191,7 @@ module _ (accs : Accounts) (n : ℕ) (e x : End) (sender : Option Sender) (momen
   entered_fits (move.Counted m) deed does h live = h
   entered_fits (move.FrameSent m) deed does h live = h
   entered_fits (move.FrameUp m) deed does h live = h
+  entered_fits m deed does h live = h
 
 -- ---- all tunnels
 

@@ -122,7 +122,7 @@ module _ (keep : MovesKeep) (follow : MovesFollow) where
       }) in
       let most = most_sessions accs ends w joined n lt e here in
       let few : told.born < 2 ^ 64 - 1 = omega (arith, room) in
-      let b = births_on told ends w f.world n lt e y here births node is few m f.births in
+      let b = births_on told ends w f.world n lt e y here births node is few m h.1.main f.births in
       let count = b.count in
       let rises = f.births.rises in
       let k = chain_follows deed ms (after accs d) (with_end ends n y) f.world n lt y x sender moment ev h.2 (here_end ends n y) f.joined

@@ -14,6 +14,7 @@ use Rattle.end_names.specs.Names.{node_of}
 use Rattle.end_model.specs.End.{End}
 use Rattle.world_model.specs.World.{World, Node, Deed, birth_in, birth_of, with_birth, is_born, moved}
 use Rattle.epoch_machine.specs.Worlds as machine
+use Rattle.frame_laws.specs.Unrecovered.{IsMain}
 use Rattle.frame_laws.proofs.Facts.{all_map, all_push}
 use Rattle.connection_laws.specs.Steps.{BirthsStay}
 use Rattle.session_laws.specs.Names.{name}
@@ -202,48 +203,49 @@ module _ (world : World) (ends : Ends) (w v : machine.World) (n : ℕ) (lt : n <
   else_on : (m : Move) → x.role ≡ e.role → births_by m ≡ 0 → BirthsSame w v → MovesOn world world (with_end ends n x) v n m
   else_on m role none g = record { joined = same_on world ends w v n lt e x role here h g; declared = (node, is); count = rw none (omega arith) }
 
-  pub births_on : (m : Move) → BirthsFollow w v n e x m → MovesOn world (moved n world m) (with_end ends n x) v n m
+  pub births_on : (m : Move) → IsMain m → BirthsFollow w v n e x m → MovesOn world (moved n world m) (with_end ends n x) v n m
   unfolding moved
-  births_on (move.Added m) g = record {
+  births_on (move.Added m) main g = record {
     joined = added_on world ends w v n lt e x g.role here h m node is few g.go.0 g.go.1;
     declared = born_declared world n m.session node is;
     count = born_count world n m.session node is ∙ next_is world few ∙ (omega arith);
   }
-  births_on (move.Replied m) g = record {
+  births_on (move.Replied m) main g = record {
     joined = replied_on world ends w v n lt e x g.role here h m node is g.go.0 g.go.1 g.go.2 g.go.3 g.go.4;
     declared = made_declared world n m.session (birth_of world (node_of m.peer) m.remote) node is;
     count = made_count world n m.session (birth_of world (node_of m.peer) m.remote) node is ∙ (omega arith);
   }
-  births_on (move.FirstUp m) g = record {
+  births_on (move.FirstUp m) main g = record {
     joined = first_up_on world ends w v n lt e x g.role here h m g.go.0 g.go.1 g.go.2;
     declared = (node, is);
     count = omega arith;
   }
-  births_on (move.Opened m) g = else_on (move.Opened m) g.role refl g.go
-  births_on (move.Accepted m) g = else_on (move.Accepted m) g.role refl g.go
-  births_on (move.Connected m) g = else_on (move.Connected m) g.role refl g.go
-  births_on (move.Confirmed m) g = else_on (move.Confirmed m) g.role refl g.go
-  births_on (move.Requested m) g = else_on (move.Requested m) g.role refl g.go
-  births_on (move.SecondUp m) g = else_on (move.SecondUp m) g.role refl g.go
-  births_on (move.Refused m) g = else_on (move.Refused m) g.role refl g.go
-  births_on (move.EndTold m) g = else_on (move.EndTold m) g.role refl g.go
-  births_on (move.EndHeard m) g = else_on (move.EndHeard m) g.role refl g.go
-  births_on (move.EndSilent m) g = else_on (move.EndSilent m) g.role refl g.go
-  births_on (move.Declined m) g = else_on (move.Declined m) g.role refl g.go
-  births_on (move.Closed m) g = else_on (move.Closed m) g.role refl g.go
-  births_on (move.Rejected m) g = else_on (move.Rejected m) g.role refl g.go
-  births_on (move.ClosedBy m) g = else_on (move.ClosedBy m) g.role refl g.go
-  births_on (move.Cleared i booked) g = else_on (move.Cleared i booked) g.role refl g.go
-  births_on (move.Greeted m) g = else_on (move.Greeted m) g.role refl g.go
-  births_on (move.TookPlain m) g = else_on (move.TookPlain m) g.role refl g.go
-  births_on (move.NrRead m) g = else_on (move.NrRead m) g.role refl g.go
-  births_on (move.LetGo m) g = else_on (move.LetGo m) g.role refl g.go
-  births_on (move.Repeated m) g = else_on (move.Repeated m) g.role refl g.go
-  births_on (move.Quiet i) g = else_on (move.Quiet i) g.role refl g.go
-  births_on (move.Negotiated m) g = else_on (move.Negotiated m) g.role refl g.go
-  births_on (move.Counted m) g = else_on (move.Counted m) g.role refl g.go
-  births_on (move.FrameSent m) g = else_on (move.FrameSent m) g.role refl g.go
-  births_on (move.FrameUp m) g = else_on (move.FrameUp m) g.role refl g.go
+  births_on (move.Opened m) main g = else_on (move.Opened m) g.role refl g.go
+  births_on (move.Accepted m) main g = else_on (move.Accepted m) g.role refl g.go
+  births_on (move.Connected m) main g = else_on (move.Connected m) g.role refl g.go
+  births_on (move.Confirmed m) main g = else_on (move.Confirmed m) g.role refl g.go
+  births_on (move.Requested m) main g = else_on (move.Requested m) g.role refl g.go
+  births_on (move.SecondUp m) main g = else_on (move.SecondUp m) g.role refl g.go
+  births_on (move.Refused m) main g = else_on (move.Refused m) g.role refl g.go
+  births_on (move.EndTold m) main g = else_on (move.EndTold m) g.role refl g.go
+  births_on (move.EndHeard m) main g = else_on (move.EndHeard m) g.role refl g.go
+  births_on (move.EndSilent m) main g = else_on (move.EndSilent m) g.role refl g.go
+  births_on (move.Declined m) main g = else_on (move.Declined m) g.role refl g.go
+  births_on (move.Closed m) main g = else_on (move.Closed m) g.role refl g.go
+  births_on (move.Rejected m) main g = else_on (move.Rejected m) g.role refl g.go
+  births_on (move.ClosedBy m) main g = else_on (move.ClosedBy m) g.role refl g.go
+  births_on (move.Cleared i booked) main g = else_on (move.Cleared i booked) g.role refl g.go
+  births_on (move.Greeted m) main g = else_on (move.Greeted m) g.role refl g.go
+  births_on (move.TookPlain m) main g = else_on (move.TookPlain m) g.role refl g.go
+  births_on (move.NrRead m) main g = else_on (move.NrRead m) g.role refl g.go
+  births_on (move.LetGo m) main g = else_on (move.LetGo m) g.role refl g.go
+  births_on (move.Repeated m) main g = else_on (move.Repeated m) g.role refl g.go
+  births_on (move.Quiet i) main g = else_on (move.Quiet i) g.role refl g.go
+  births_on (move.Negotiated m) main g = else_on (move.Negotiated m) g.role refl g.go
+  births_on (move.Counted m) main g = else_on (move.Counted m) g.role refl g.go
+  births_on (move.FrameSent m) main g = else_on (move.FrameSent m) g.role refl g.go
+  births_on (move.FrameUp m) main g = else_on (move.FrameUp m) g.role refl g.go
+  births_on m main g = absurd main
 
 -- ---- mates of calls that were made for requests
 

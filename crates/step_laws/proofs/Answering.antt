@@ -3,7 +3,7 @@ use Rattle.std.proofs.Common.{◌≡◌, ℕ, ◌<◌, Bool, true, cond, List, [
 use Rattle.std.proofs.lemmas.Bool.{eqb-true, true≢false, eq-eqb, lt-ltb}
 use Rattle.std.proofs.lemmas.Grind.{flat_map-append}
 use Rattle.std.proofs.lemmas.List.{append-nil}
-use Rattle.std.specs.Prelude.{◌==◌, nat_lt, unwrap_or}
+use Rattle.std.specs.Prelude.{◌==◌, nat_lt, unwrap_or, not}
 use Rattle.std.specs.List.{flat_map}
 use Rattle.id_table.specs.Ids.{at, ids_of}
 use Rattle.wire_base.specs.declared.why.Why.TheVariants as why
@@ -29,7 +29,7 @@ use Rattle.end_model.specs.declared.moves.Move.{Move}
 use Rattle.end_model.specs.Reading.{message_in, CallFault, call_fault_in, tunnel_fault_in}
 use Rattle.end_model.specs.Messages.{tells_id}
 use Rattle.end_model.specs.Calls.{call_row}
-use Rattle.end_model.specs.Tunnels.{Turn, Tunnel}
+use Rattle.end_model.specs.Tunnels.{Turn, Tunnel, is_current}
 use Rattle.end_model.specs.Reasons.{Reason, out_of_state, fault_reason}
 use Rattle.end_model.specs.Turn.{with_output, with_move, with_change, with_new, ends_call}
 use Rattle.end_model.specs.Sending.{gives, takes_one, takes_plain, settles}
@@ -45,7 +45,7 @@ use Rattle.end_model.specs.End.{End}
 use Rattle.step_laws.specs.Left.{CanBe}
 use Rattle.step_laws.specs.Answers.{IsRequest, Incoming, Outgoing, FaultyIncoming, FaultyOutgoing, TooFaulty, answer_of_move, cause_of_output, causes_of, IsReply, IsRefusal, IsEnd, IsClose, AnswersIcrq, WithReply, WithRefusal, WithEnd, AnswersFaulty, IsAnswer}
 use Rattle.step_laws.proofs.Granting.{grants_is, denies_is}
-use Rattle.step_laws.proofs.Lists.{branch}
+use Rattle.step_laws.proofs.Lists.{branch, not_true}
 use Rattle.step_laws.proofs.Owing.{live_open}
 use Rattle.step_laws.proofs.Shutting.{all_ended_is}
 use Rattle.step_laws.proofs.Stopping.{row_shut}
@@ -135,6 +135,7 @@ pub record IsOpen (id : ℕ) (t : Turn) : Type 0 where
   pub local : t.control.local ≡ id
   pub room : has_room t.control ≡ true
   pub state : state_number t.control.state ≡ 3
+  pub current : is_current t.on.mode ≡ true
 
 module _ (A : List CauseOf → Move → Type 0) (id : ℕ) where
   abbrev Answered : Turn → Type 0
@@ -163,11 +164,13 @@ module _ (A : List CauseOf → Move → Type 0) (id : ℕ) where
       → Answered (ends_by r.cause r.result r.error s c call_action.SendCdn (takes_plain t))
   unfolding ends_by end_told gives with_move ends_call with_output with_change takes_plain takes_one
   tells_once r s c t h right =
-      branch Answered (has_room t.control) _ _
+      branch Answered (not (is_current t.on.mode)) _ _
+      (λ inactive. absurd (true≢false (sym h.current ∙ not_true _ inactive)))
+      (λ active. branch Answered (has_room t.control) _ _
       (λ may. answered A _ _ _ (r.cause ∷ []) (none_more answer_of_move t.moves _ refl ∙ h.none) refl
       (none_more cause_of_output (t.outputs ++ Cause r.cause ∷ []) (Gone s) refl ∙ one_told t.outputs r.cause h.untold)
       (right _ (record { told = _; is = refl; tunnel = h.local; session_is = refl; remote_is = refl; result_is = refl; error_is = refl })))
-      (λ full. absurd (true≢false (sym h.room ∙ full)))
+      (λ full. absurd (true≢false (sym h.room ∙ full))))
 
   ends_once : (r : Reason) (s : ℕ) (c : Call) (a : CallAction) (t : Turn) → IsOpen id t → s < 65536 → a ≡ call_action.SendCdn
       → ((m : Move) → IsEnd id s c r.result r.error m → A (r.cause ∷ []) m) → Answered (answers_by r s c a t)

@@ -1,8 +1,8 @@
 -- Where a turn leaves a call that waits in an open tunnel, there is no room for the request.
-use Rattle.std.proofs.Common.{◌≡◌, ◌⊎◌, ⊎_elim, ℕ, ◌<◌, Bool, true, false, List, [], ◌∷◌, ◌++◌, length, refl, sym, ap, ◌∙◌, subst, Option, Some, None, Result, Ok, Err, arith}
+use Rattle.std.proofs.Common.{◌≡◌, ◌⊎◌, ⊎_elim, ℕ, Bool, true, false, List, [], ◌∷◌, ◌++◌, length, refl, sym, ap, ◌∙◌, subst, Option, Some, None, Result, Ok, Err, arith}
 use Rattle.std.proofs.lemmas.Bool.{eqb-true, eqb-false, true≢false, ltb-false}
 use Rattle.std.proofs.lemmas.Option.{none-some}
-use Rattle.std.specs.Prelude.{◌&&◌, ◌==◌, nat_lt, unwrap_or}
+use Rattle.std.specs.Prelude.{◌&&◌, ◌==◌, nat_lt, unwrap_or, not}
 use Rattle.id_table.specs.Ids.{at, put, without, ids_of, at-none}
 use Rattle.id_table.specs.Order.{Ascends, ascends-put, found_put, found_without, same_or_not}
 use Rattle.id_source.specs.Spaces.{takes_id}
@@ -22,7 +22,6 @@ use Rattle.recv_window.specs.declared.Class.{Class}
 use Rattle.recv_window.specs.declared.Class.TheVariants.{Next, Duplicate, Ahead}
 use Rattle.control_channel.specs.Numbers.{class_told}
 use Rattle.tunnel_fsm.specs.declared.table.TunnelState.{TunnelState}
-use Rattle.tunnel_fsm.specs.declared.table.TunnelState.TheVariants as state
 use Rattle.tunnel_fsm.specs.declared.table.TunnelAction.{TunnelAction}
 use Rattle.tunnel_fsm.specs.declared.table.TunnelAction.TheVariants as action
 use Rattle.tunnel_fsm.specs.declared.table.TunnelEvent.{TunnelEvent}
@@ -32,7 +31,6 @@ use Rattle.call_fsm.specs.declared.table.CallAction.{CallAction}
 use Rattle.call_fsm.specs.declared.table.CallAction.TheVariants as call_action
 use Rattle.call_fsm.specs.declared.table.CallEvent.{CallEvent}
 use Rattle.call_fsm.specs.declared.table.CallEvent.TheVariants as call_event
-use Rattle.call_fsm.specs.declared.table.CallState.{CallState}
 use Rattle.call_fsm.specs.declared.table.CallState.TheVariants as call
 use Rattle.end_model.specs.declared.tunnel.Call.{Call}
 use Rattle.end_model.specs.declared.tunnel.Config.{Config}
@@ -42,20 +40,20 @@ use Rattle.call_link.specs.Link.{new_link}
 use Rattle.call_link.specs.Turns.{Opens, linked}
 use Rattle.end_names.specs.declared.role.Role.{Role}
 use Rattle.step_laws.proofs.Linking.{linked_call, negotiated_is, negotiated_put}
-use Rattle.end_names.specs.declared.role.Role.TheVariants.{Lac, Lns}
 use Rattle.end_model.specs.declared.out.Out.TheVariants.{Cause}
+use Rattle.end_model.specs.declared.moves.Move.TheVariants as move
 use Rattle.session_looks.specs.Frames.{header_why}
 use Rattle.l2tp_header.specs.Reading.{body_of}
 use Rattle.end_model.specs.Reading.{message_in, CallFault, call_fault_in, TunnelFault, tunnel_fault_in}
-use Rattle.end_model.specs.Calls.{call_row, row_for, row_of_none, advanced, with_numbers, counted, rung, asked_for, is_request, is_connection, is_up, are_too_many, is_clean_up, is_short, is_long}
-use Rattle.end_model.specs.Stopping.{rejects, rejected, shut, shuts, closed_told, closes_tunnel, closed_by, shuts_by}
+use Rattle.end_model.specs.Calls.{row_for, row_of_none, advanced, with_numbers, counted, rung, asked_for, is_request, is_connection, is_up, are_too_many, is_clean_up, is_short, is_long}
+use Rattle.end_model.specs.Stopping.{rejects, rejected, shut, shuts, closed_told, closes_tunnel, closed_by, shuts_by, clears}
 use Rattle.end_model.specs.Messages.{connected_reason, connected_event, event_by, opening_reason, Told, tells_id, told_by}
-use Rattle.end_model.specs.Tunnels.{Turn}
+use Rattle.end_model.specs.Tunnels.{Turn, is_current}
 use Rattle.end_model.specs.Turn.{with_output, with_move, with_change, with_call, with_new, drops, ends_all, ends_call}
 use Rattle.end_model.specs.Openings.{connected, confirms}
 use Rattle.end_model.specs.Events.{with_calls}
 use Rattle.end_model.specs.Ringing.{requested, requests, requests_at, requests_all, adds, rings_over, rings_by, rings_within, rings}
-use Rattle.end_model.specs.Hearing.{connects, takes_by, takes, about_call, in_call, hears, hears_faulty, hears_said, hears_next, hears_letter, is_duplicate, in_tunnel, hears_control, hears_datagram}
+use Rattle.end_model.specs.Hearing.{connects, takes_by, takes, about_call, in_call, hears, hears_faulty, hears_said, hears_next, hears_letter, is_duplicate, in_tunnel, hears_control, hears_datagram, ignores_all}
 use Rattle.end_model.specs.Sending.{gives, gives_as, settles, takes_one, reads_nr, takes_plain, ignores}
 use Rattle.end_model.specs.Channels.{has_room, may_take, counts_taken}
 use Rattle.end_model.specs.Reasons.{Reason, reason, out_of_state, fault_reason, out_of_order}
@@ -63,7 +61,7 @@ use Rattle.end_model.specs.Refusing.{refused, refuses, of_no_call, answers_by}
 use Rattle.end_model.specs.Closing.{end_silent, end_told, ends_by, closes}
 use Rattle.end_model.specs.Asking.{granted, asked_by, replied, replies, session_named}
 use Rattle.end_model.specs.Faulty.{faulty_at, faulty, in_faulty_call}
-use Rattle.end_model.specs.Moments.{is_closed}
+use Rattle.end_model.specs.Moments.{is_closed, is_open}
 use Rattle.end_model.specs.Connecting.{first_up, first_up_by, second_up, connects_call, linked_up, second_up_by, end_heard, end_heard_by, ends_named}
 use Rattle.end_model.specs.Links.{link_env, with_link, is_passing}
 use Rattle.end_model.specs.Linking.{sends_frames, negotiated}
@@ -73,47 +71,7 @@ use Rattle.step_laws.proofs.Lists.{branch, and_left, found_among, with_calls-mor
 use Rattle.step_laws.proofs.States.{requested_state, connected_state, up_state}
 use Rattle.step_laws.proofs.Keeping.{settled_keeps, more_full}
 use Rattle.step_laws.proofs.Shutting.{all_ended_is, none_left}
-
--- ---- which calls wait
-
--- a call isn't asked for yet, and is to be as soon as its tunnel is open
-pub record Waits (role : Role) (s : ℕ) (c : Call) : Type 0 where
-  pub small : s < 65536
-  pub row : is_request (row_for role c call_event.TunnelOpen).1 ≡ true
-
--- one in another state doesn't
-other_state : (s n : CallState) → s ≡ n → (n ≡ call.WaitTunnel → ⊥) → s ≡ call.WaitTunnel → ⊥
-other_state s n is other k = other (sym is ∙ k)
-
--- nor does one that the peer asked for
-replied_state : (r : Role) (remote moment : ℕ) → (asked_for r remote moment).state ≡ call.WaitTunnel → ⊥
-unfolding call_row asked_for advanced
-replied_state Lac remote moment k = absurd cc
-replied_state Lns remote moment k = absurd cc
-
--- a tunnel whose SCCRQ isn't answered yet stays so on each event on which it does nothing
-opening_row : (s : TunnelState) → state_number s ≡ 1 → (on : TunnelEvent) → (row_of rows s on).1 ≡ action.Nothing
-    → state_number (row_of rows s on).0 ≡ state_number s
-opening_row state.Idle h on k = absurd (omega (arith, h))
-opening_row state.WaitCtlConn h on k = absurd (omega (arith, h))
-opening_row state.Established h on k = absurd (omega (arith, h))
-opening_row state.Closed h on k = absurd (omega (arith, h))
-opening_row state.WaitCtlReply h event.LocalOpen k = refl
-opening_row state.WaitCtlReply h event.SccrqAcc k = absurd cc
-opening_row state.WaitCtlReply h event.SccrqNotAcc k = absurd cc
-opening_row state.WaitCtlReply h event.SccrpAcc k = absurd cc
-opening_row state.WaitCtlReply h event.SccrpNotAcc k = absurd cc
-opening_row state.WaitCtlReply h event.ScccnAcc k = absurd cc
-opening_row state.WaitCtlReply h event.ScccnNotAcc k = absurd cc
-opening_row state.WaitCtlReply h event.AdminClose k = absurd cc
-opening_row state.WaitCtlReply h event.StopCcnCame k = absurd cc
-
--- the tunnel is no new one, or it is
-abbrev pub Busy : Turn → Type 0
-Busy t = state_number t.control.state ≡ 0 → ⊥
-
-abbrev pub Idle : Turn → Type 0
-Idle t = state_number t.control.state ≡ 0
+pub use Rattle.step_laws.proofs.WaitingCalls.{Waits, other_state, replied_state, opening_row, Busy, Idle}
 
 module _ (role : Role) (calls : List (ℕ × Call)) where
   abbrev There : Turn → ℕ → Call → Type 0
@@ -373,13 +331,20 @@ module _ (role : Role) (calls : List (ℕ × Call)) where
       none_there (closed_by calls next t)
       (ended_calls (record t { control = shut t.control.remote next t.on.moment (counts_taken t.control); took = true }) b.none)
 
+  cleared_asked : (t : Turn) → Begins t → Asked (clears calls t)
+  unfolding clears with_move
+  cleared_asked t b = none_there (clears calls t) (ended_calls (with_move (move.Cleared t.control.local (is_open t.control.state)) t) b.none)
+
   pub shuts_by_asked : (letters : List Letter) (next : TunnelState) (a : TunnelAction) (t : Turn) → Begins t
       → Asked (settles false letters (shuts_by calls (next, a) t))
   unfolding shuts_by
   shuts_by_asked letters next a t b = settled false letters (shuts_by calls (next, a) t) (by a)
     where
       by : (a : TunnelAction) → Asked (shuts_by calls (next, a) t)
-      by action.SendStopCcn = shuts_asked (reason cause.Operator 1 None) t.control.remote next t b
+      by action.SendStopCcn =
+          branch Asked (is_current t.on.mode) _ _
+          (λ active. shuts_asked (reason cause.Operator 1 None) t.control.remote next t b)
+          (λ inactive. cleared_asked t b)
       by action.Nothing = same t t refl refl b
       by action.SendSccrq = same t t refl refl b
       by action.SendSccrp = same t t refl refl b
@@ -489,7 +454,9 @@ module _ (role : Role) (calls : List (ℕ × Call)) where
     unfolding ends_by
     ends_by_asked for result error k c call_action.CleanUp t r = silent_asked k (is_up c.state) t r
     ends_by_asked for result error k c call_action.SendCdn t r =
-        branch Asked (has_room t.control) _ _ (λ may. told_asked for k c result error t r) (λ full. full_asked t r)
+        branch Asked (not (is_current t.on.mode)) _ _
+        (λ inactive. silent_asked k (is_up c.state) t r)
+        (λ active. branch Asked (has_room t.control) _ _ (λ may. told_asked for k c result error t r) (λ full. full_asked t r))
     ends_by_asked for result error k c call_action.Nothing t r = rests_asked t t refl refl r
     ends_by_asked for result error k c call_action.SendIcrq t r = rests_asked t t refl refl r
     ends_by_asked for result error k c call_action.SendIcrp t r = rests_asked t t refl refl r
@@ -665,17 +632,23 @@ module _ (role : Role) (calls : List (ℕ × Call)) where
     unfolding reads_nr with_move
     reads_begin nr t b = record { none = b.none; asked = b.asked }
 
+    ignores_asked : (t : Turn) → Begins t → Asked (ignores_all t)
+    unfolding ignores_all drops with_output with_move
+    ignores_asked t b = same t (ignores_all t) refl refl b
+
     control_asked : (c : Config) (letters : List Letter) (k : Header) (body : List ℕ) (t : Turn) → Busy t → Begins t
         → Asked (hears_control role c letters calls k body t)
     unfolding hears_control in_tunnel
     control_asked c letters k body t busy b =
         branch Asked (state_number t.control.state == 0) _ _
         (λ idle. absurd (busy (eqb-true (state_number t.control.state) 0 idle)))
-        (λ other.
+        (λ other. branch Asked (not (is_current t.on.mode)) _ _
+        (λ inactive. ignores_asked t b)
+        (λ active.
         let class = class_told t.control.channel (unwrap_or k.ns 0) (length body == 0) in
         let u = reads_nr (unwrap_or k.nr 0) t in
         settled (is_duplicate class) letters (hears_letter role c calls k.session body class u)
-        (letter_asked c k.session body class u (reads_begin (unwrap_or k.nr 0) t b)))
+        (letter_asked c k.session body class u (reads_begin (unwrap_or k.nr 0) t b))))
 
     pub datagram_asked : (c : Config) (letters : List Letter) (bytes : List ℕ) (r : Result Header HeaderError) (t : Turn) → Busy t → Begins t
         → Asked (hears_datagram role c letters calls bytes r t)

@@ -1,5 +1,5 @@
 -- A subscriber that wants a call rings, whether by a port or as a host that was admitted.
-use Rattle.std.proofs.Common.{◌≡◌, ℕ, List, false, refl, ap, Option, Some, None}
+use Rattle.std.proofs.Common.{◌≡◌, ℕ, List, false, refl, ap, Some}
 use Rattle.wire_base.specs.declared.letter.Letter.{Letter}
 use Rattle.end_model.specs.declared.event.Event.{Event}
 use Rattle.end_model.specs.declared.event.Event.TheVariants.{Datagram, Ring, Frame, Admitted, Payload, Lower, Lcp, Hang, OpenTunnel, DropCall, CloseTunnel, Tick}
@@ -12,6 +12,7 @@ use Rattle.end_model.specs.Events.{turns}
 use Rattle.end_model.specs.Ringing.{rings}
 use Rattle.end_model.specs.Sending.{settles}
 use Rattle.step_laws.specs.Callers.{IsRing}
+use Rattle.end_model.specs.Recovering.{is_tick}
 
 some_is : (a b : List ℕ) → Some a ≡ Some b → a ≡ b
 some_is a b h = cc
@@ -31,3 +32,18 @@ turns_ring role c letters calls OpenTunnel who t h = absurd cc
 turns_ring role c letters calls (DropCall s) who t h = absurd cc
 turns_ring role c letters calls (CloseTunnel i) who t h = absurd cc
 turns_ring role c letters calls Tick who t h = absurd cc
+
+-- time doesn't pass on a ring
+pub ring_no_tick : (ev : Event) (who : List ℕ) → IsRing ev who → is_tick ev ≡ false
+ring_no_tick (Ring port) who h = refl
+ring_no_tick (Admitted mac) who h = refl
+ring_no_tick (Datagram peer bytes) who h = refl
+ring_no_tick (Frame bytes) who h = refl
+ring_no_tick (Payload s frame) who h = refl
+ring_no_tick (Lower s frame) who h = refl
+ring_no_tick (Lcp s packet) who h = refl
+ring_no_tick (Hang s) who h = refl
+ring_no_tick OpenTunnel who h = refl
+ring_no_tick (DropCall s) who h = refl
+ring_no_tick (CloseTunnel i) who h = refl
+ring_no_tick Tick who h = absurd cc

@@ -3,17 +3,17 @@ use Rattle.std.proofs.Common.{◌≡◌, ℕ, ◌≤◌, ◌<◌, Bool, true, fa
 use Rattle.std.proofs.lemmas.Bool.{eqb-true, eq-eqb, true≢false}
 use Rattle.std.proofs.lemmas.Option.{none-some}
 use Rattle.std.specs.List.{find}
-use Rattle.std.specs.Prelude.{◌==◌}
+use Rattle.std.specs.Prelude.{◌==◌, ◌&&◌, not, is_some}
 use Rattle.id_table.specs.Ids.{at, at-cons, ids_of}
 use Rattle.id_table.specs.Order.{IsAbove, Ascends, lower, at-above}
 use Rattle.tunnel_fsm.specs.declared.table.TunnelState.{TunnelState}
 use Rattle.tunnel_fsm.specs.declared.table.TunnelState.TheVariants.{Idle, WaitCtlReply, WaitCtlConn, Established, Closed}
 use Rattle.tunnel_fsm.specs.Rows.{state_number}
-use Rattle.end_model.specs.Tunnels.{Tunnel}
-use Rattle.end_model.specs.End.{End, is_in, least_in}
-use Rattle.step_laws.specs.Room.{IsLeast, HasNone}
+use Rattle.end_model.specs.Tunnels.{Tunnel, mode_of, is_current}
+use Rattle.end_model.specs.End.{End, is_in, least_in, is_recovering, are_recovering}
+use Rattle.step_laws.specs.Room.{IsLeast, HasNone, IsRecovering}
 use Rattle.step_laws.specs.Steps.{AreKept}
-use Rattle.step_laws.proofs.Lists.{and_left, and_right, found_passes, none_passes, found_among}
+use Rattle.step_laws.proofs.Lists.{and_left, and_right, found_passes, none_passes, found_among, not_true}
 
 -- ---- in a table
 
@@ -62,20 +62,23 @@ module _ (e : End) (kept : AreKept e) (s : TunnelState) (told : (a : TunnelState
 
   -- a tunnel that passes is to the LNS, and in the state
   passing : (o : Option Tunnel) → is_in s e.config.lns o ≡ true
-      → (t : Tunnel) × (o ≡ Some t) × (t.control.peer ≡ e.config.lns) × (t.control.state ≡ s)
+      → (t : Tunnel) × (o ≡ Some t) × (t.control.peer ≡ e.config.lns) × (t.control.state ≡ s) × (is_current (mode_of t.recovery) ≡ true)
   passing None h = absurd (true≢false (sym h))
   passing (Some t) h =
       let state = state_number t.control.state == state_number s in
-      let peer = t.control.peer == e.config.lns in (
+      let peer = t.control.peer == e.config.lns in
+      let active = is_current (mode_of t.recovery) in
+      let both = and_left (state && peer) active h in (
         t,
         refl,
-        eqb-true t.control.peer e.config.lns (and_right state peer h),
-        told t.control.state (eqb-true (state_number t.control.state) (state_number s) (and_left state peer h)),
+        eqb-true t.control.peer e.config.lns (and_right state peer both),
+        told t.control.state (eqb-true (state_number t.control.state) (state_number s) (and_left state peer both)),
+        and_right (state && peer) active h,
       )
 
   -- and one that is passes
-  passed : (j : ℕ) (t : Tunnel) → at e.tunnels j ≡ Some t → t.control.peer ≡ e.config.lns → t.control.state ≡ s → passes j ≡ true
-  passed j t there peer state = rw (there, peer, state, eq-eqb (state_number s) (state_number s) refl, eq-eqb e.config.lns e.config.lns refl) refl
+  passed : (j : ℕ) (t : Tunnel) → at e.tunnels j ≡ Some t → is_current (mode_of t.recovery) ≡ true → t.control.peer ≡ e.config.lns → t.control.state ≡ s → passes j ≡ true
+  passed j t there active peer state = rw (there, peer, state, active, eq-eqb (state_number s) (state_number s) refl, eq-eqb e.config.lns e.config.lns refl) refl
 
   least_by : (i : ℕ) → find passes (ids_of e.tunnels) ≡ Some i → IsLeast e s i
   least_by i found =
@@ -85,20 +88,24 @@ module _ (e : End) (kept : AreKept e) (s : TunnelState) (told : (a : TunnelState
         there = there.1;
         peer = there.2;
         state = there.3;
-        least = λ j t at_j peer state. found_least passes e.tunnels i j t kept.order found at_j (passed j t at_j peer state);
+        current = there.4;
+        least = λ j t at_j active peer state. found_least passes e.tunnels i j t kept.order found at_j (passed j t at_j active peer state);
       }
 
   none_by : find passes (ids_of e.tunnels) ≡ None → HasNone e s
-  none_by none j t there peer state =
-      none_passes passes (ids_of e.tunnels) j none (found_among e.tunnels j t there) (passed j t there peer state)
+  none_by none j t there active peer state =
+      none_passes passes (ids_of e.tunnels) j none (found_among e.tunnels j t there) (passed j t there active peer state)
 
 -- whatever tunnel is there
 pub least_is : (e : End) (s : TunnelState) (i : ℕ) → IsLeast e s i → (t : Tunnel) → at e.tunnels i ≡ Some t
-    → (state_number t.control.state ≡ state_number s) × (t.control.peer ≡ e.config.lns)
+    → (state_number t.control.state ≡ state_number s) × (t.control.peer ≡ e.config.lns) × (is_current (mode_of t.recovery) ≡ true)
 least_is e s i l t there =
     let found : Some l.tunnel ≡ Some t = sym l.there ∙ there in
-    let same : l.tunnel ≡ t = cc in
-    (ap (λ (u : Tunnel). state_number u.control.state) (sym same) ∙ ap state_number l.state, ap (λ (u : Tunnel). u.control.peer) (sym same) ∙ l.peer)
+    let same : l.tunnel ≡ t = cc in (
+      ap (λ (u : Tunnel). state_number u.control.state) (sym same) ∙ ap state_number l.state,
+      ap (λ (u : Tunnel). u.control.peer) (sym same) ∙ l.peer,
+      ap (λ (u : Tunnel). is_current (mode_of u.recovery)) (sym same) ∙ l.current,
+    )
 
 module _ (e : End) (kept : AreKept e) where
   pub least_open : (i : ℕ) → least_in Established e.config.lns e.tunnels ≡ Some i → IsLeast e Established i
@@ -116,3 +123,35 @@ module _ (e : End) (kept : AreKept e) where
   pub none_opening : least_in WaitCtlReply e.config.lns e.tunnels ≡ None → HasNone e WaitCtlReply
   unfolding least_in
   none_opening is = none_by e kept WaitCtlReply is_opening is
+
+  -- ---- tunnels that are recovered
+
+  abbrev recovers : ℕ → Bool
+  recovers j = is_recovering e.config.lns (at e.tunnels j)
+
+  recovering_at : (o : Option Tunnel) → is_recovering e.config.lns o ≡ true
+      → (t : Tunnel) × (o ≡ Some t) × (t.control.peer ≡ e.config.lns) × (is_current (mode_of t.recovery) ≡ false)
+  recovering_at None h = absurd (true≢false (sym h))
+  recovering_at (Some t) h =
+      let peer = t.control.peer == e.config.lns in
+      let inactive = not (is_current (mode_of t.recovery)) in
+      (t, refl, eqb-true t.control.peer e.config.lns (and_left peer inactive h), not_true _ (and_right peer inactive h))
+
+  pub some_recover : are_recovering e.config.lns e.tunnels ≡ true → IsRecovering e
+  unfolding are_recovering
+  some_recover h = by (find recovers (ids_of e.tunnels)) refl h
+    where
+      by : (o : Option ℕ) → find recovers (ids_of e.tunnels) ≡ o → is_some o ≡ true → IsRecovering e
+      by None is none = absurd (true≢false (sym none))
+      by (Some j) is some = let at_j = recovering_at (at e.tunnels j) (found_passes recovers (ids_of e.tunnels) j is) in (j, at_j.0, at_j.1, at_j.2, at_j.3)
+
+  pub none_recover : are_recovering e.config.lns e.tunnels ≡ false → IsRecovering e → ⊥
+  unfolding are_recovering
+  none_recover h r = by (find recovers (ids_of e.tunnels)) refl h
+    where
+      passes_it : recovers r.0 ≡ true
+      passes_it = let there = r.2 in let peer = r.3 in let inactive = r.4 in rw (there, peer, inactive, eq-eqb e.config.lns e.config.lns refl) refl
+
+      by : (o : Option ℕ) → find recovers (ids_of e.tunnels) ≡ o → is_some o ≡ false → ⊥
+      by None is none = none_passes recovers (ids_of e.tunnels) r.0 is (found_among e.tunnels r.0 r.1 r.2) passes_it
+      by (Some j) is some = true≢false some

@@ -6,7 +6,7 @@ use Rattle.wire_base.specs.declared.letter.Letter.{Letter}
 use Rattle.avp_codec.specs.Reading.{avps_at}
 use Rattle.l2tp_header.specs.declared.header.Header.{Header}
 use Rattle.control_message.specs.declared.message.Message.{Message}
-use Rattle.control_message.specs.Reading.{message_of, message_by}
+use Rattle.control_message.specs.Reading.{message_by}
 use Rattle.tunnel_fsm.specs.declared.table.TunnelState.{TunnelState}
 use Rattle.tunnel_fsm.specs.Rows.{state_number}
 use Rattle.call_fsm.specs.declared.table.CallEvent.{CallEvent}
@@ -16,13 +16,13 @@ use Rattle.end_model.specs.declared.event.Event.{Event}
 use Rattle.end_model.specs.declared.event.Addressee.TheVariants.{Opens, Stops}
 use Rattle.end_model.specs.Reading.{message_read, pairs_read, message_in}
 use Rattle.end_model.specs.Calls.{row_for, is_told}
-use Rattle.end_model.specs.Tunnels.{Tunnel, Turn, new_tunnel}
+use Rattle.end_model.specs.Tunnels.{Tunnel, new_tunnel, Turn, Recovering}
 use Rattle.end_model.specs.Moments.{is_closed}
 use Rattle.end_model.specs.Channels.{may_take}
 use Rattle.end_model.specs.Events.{tunnel_after, with_calls}
 use Rattle.end_model.specs.End.{End}
 use Rattle.step_laws.specs.Causes.{IsTold, CameAbout}
-use Rattle.step_laws.specs.Moves.{Came, Says, IsFor, ComesTo, IsNext, HearsNext, IsPlain, InTunnel}
+use Rattle.step_laws.specs.Moves.{Came, IsFor, ComesTo, IsNext, HearsNext, IsPlain, InTunnel}
 use Rattle.step_laws.proofs.Turns.{ComesPlain, TurnOk, PlainAt, at_turn}
 
 -- an empty body is no message
@@ -79,15 +79,15 @@ heard_in ev t d session m local remote peer h = record {
 pub in_other : (t : Turn) (s : TunnelState) (n : ℕ) → t.control.state ≡ s → (state_number s ≡ n → ⊥) → state_number t.control.state ≡ n → ⊥
 in_other t s n is other same = other (sym (ap state_number is) ∙ same)
 
-module _ (e : End) (moment : ℕ) (ev : Event) (letters : List Letter) (calls : List (ℕ × Call)) (i : ℕ) where
+module _ (e : End) (moment : ℕ) (ev : Event) (letters : List Letter) (calls : List (ℕ × Call)) (recovery : Option Recovering) (i : ℕ) where
   -- a turn that changed nothing yet
   pub record Fresh (t : Turn) : Type 0 where
-    pub good : TurnOk e moment ev letters calls i t
+    pub good : TurnOk e moment ev letters calls recovery i t
     pub changes : t.changes ≡ []
     pub changed : t.changed ≡ []
     -- the tunnel before the step
     pub first : Control
-    pub there : at e.tunnels i ≡ Some (record (new_tunnel first) { letters = letters; calls = calls })
+    pub there : at e.tunnels i ≡ Some (record (new_tunnel first) { letters = letters; calls = calls; recovery = recovery })
     pub local : first.local ≡ t.control.local
     pub remote : first.remote ≡ t.control.remote
     pub peer : first.peer ≡ t.control.peer
@@ -105,11 +105,11 @@ module _ (e : End) (moment : ℕ) (ev : Event) (letters : List Letter) (calls : 
     pub may : may_take t.control calls ≡ true
 
   abbrev pub Plain : Turn → ℕ → Message → Type 0
-  Plain t session m = IsPlain (at_turn e moment ev letters calls i t) (tunnel_after t letters calls) session m
+  Plain t session m = IsPlain (at_turn e moment ev letters calls recovery i t) (tunnel_after t letters calls recovery) session m
 
   -- the tunnel as the turn has it
   abbrev pub now : Turn → Tunnel
-  now t = tunnel_after t letters calls
+  now t = tunnel_after t letters calls recovery
 
   pub calls_first : (t : Turn) → Fresh t → with_calls t.changed calls ≡ calls
   unfolding with_calls
@@ -118,8 +118,8 @@ module _ (e : End) (moment : ℕ) (ev : Event) (letters : List Letter) (calls : 
   pub spare_first : (t : Turn) → Taking t → may_take t.control (with_calls t.changed calls) ≡ true
   spare_first t f = ap (may_take t.control) (calls_first t f.fresh) ∙ f.may
 
-  pub comes_at : (t : Turn) → Taking t → (session : ℕ) (m : Message) → Plain t session m → HearsNext ev (now t) session m → PlainAt e moment ev letters calls i t
-  comes_at t f session m plain h = comes ev (at_turn e moment ev letters calls i t) (now t) session m plain (λ live. spare_first t f) h
+  pub comes_at : (t : Turn) → Taking t → (session : ℕ) (m : Message) → Plain t session m → HearsNext ev (now t) session m → PlainAt e moment ev letters calls recovery i t
+  comes_at t f session m plain h = comes ev (at_turn e moment ev letters calls recovery i t) (now t) session m plain (λ live. spare_first t f) h
 
   pub at_first : (t : Turn) → Fresh t → (s : ℕ) (o : Option Call) → at calls s ≡ o → at (with_calls t.changed calls) s ≡ o
   at_first t f s o h = ap (λ cs. at cs s) (calls_first t f) ∙ h
@@ -137,7 +137,7 @@ module _ (e : End) (moment : ℕ) (ev : Event) (letters : List Letter) (calls : 
   -- ---- the tunnel before the step
 
   abbrev pub begun : (t : Turn) → Fresh t → Tunnel
-  begun t f = record (new_tunnel f.first) { letters = letters; calls = calls }
+  begun t f = record (new_tunnel f.first) { letters = letters; calls = calls; recovery = recovery }
 
   -- the next letter was the next one then
   pub next_first : (t : Turn) (f : Fresh t) (k : Came) → IsNext ev (now t) k → IsNext ev (begun t f) k
@@ -151,10 +151,11 @@ module _ (e : End) (moment : ℕ) (ev : Event) (letters : List Letter) (calls : 
   came_at t f is_open session m hears = record {
     id = i;
     there = f.there;
+    current = f.good.current;
     open_is = ap state_number f.state ∙ is_open;
     came = hears_first t f session m hears;
   }
 
   pub told_at : (t : Turn) (f : Fresh t) (s : ℕ) (c : Call) (on : CallEvent) → at calls s ≡ Some c → is_told (row_for e.role c on).1 ≡ true
       → IsTold e (begun t f) s on
-  told_at t f s c on found row = record { id = i; there = f.there; call = c; live = found; row = row }
+  told_at t f s c on found row = record { id = i; there = f.there; current = f.good.current; call = c; live = found; row = row }

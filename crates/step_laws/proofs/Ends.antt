@@ -4,22 +4,22 @@ use Rattle.step_laws.specs.Callers.{IsRing, WantsTunnel}
 use Rattle.std.proofs.Common.{◌≡◌, ◌⊎◌, inl, inr, ⊎_elim, ℕ, ◌<◌, ◌≤◌, length, Bool, true, false, List, [], refl, sym, ap, ◌∙◌, subst, Option, Some, None, Result, Ok, Err, arith, rules}
 use Rattle.std.proofs.lemmas.Bool.{eqb-true, eq-eqb, ltb-true, true≢false}
 use Rattle.std.proofs.lemmas.List.{append-nil}
-use Rattle.std.specs.Prelude.{◌==◌, ◌&&◌, nat_lt}
+use Rattle.std.specs.Prelude.{◌==◌, ◌&&◌, not, nat_lt}
 use Rattle.std.specs.List.{AllByRecursion}
-use Rattle.id_table.specs.Ids.{at, put}
-use Rattle.id_table.specs.Order.{ascends-put, ascends-empty, put-again, at_new, found_put}
+use Rattle.id_table.specs.Ids.{at, put, put-put, ids_of}
+use Rattle.id_table.specs.Order.{ascends-empty, put-again}
 use Rattle.id_source.specs.Spaces.{takes_id}
 use Rattle.id_source.specs.declared.IdError.{IdError}
 use Rattle.wire_base.specs.declared.why.Why.{Why}
 use Rattle.wire_base.specs.declared.why.Why.TheVariants as why
 use Rattle.wire_base.specs.declared.cause.Cause.{Cause}
 use Rattle.wire_base.specs.declared.cause.Cause.TheVariants as cause
-use Rattle.wire_base.specs.declared.letter.Letter.{Letter}
 use Rattle.tunnel_fsm.specs.declared.table.TunnelState.{TunnelState}
 use Rattle.tunnel_fsm.specs.declared.table.TunnelState.TheVariants.{WaitCtlConn}
 use Rattle.tunnel_fsm.specs.declared.table.TunnelState.TheVariants as state
 use Rattle.tunnel_fsm.specs.declared.table.TunnelEvent.TheVariants as event
 use Rattle.tunnel_fsm.specs.declared.table.TunnelAction.{TunnelAction}
+use Rattle.tunnel_fsm.specs.declared.table.TunnelAction.TheVariants as action
 use Rattle.tunnel_fsm.specs.Rows.{rows, row_of, state_number}
 use Rattle.call_fsm.specs.declared.table.CallEvent.{CallEvent}
 use Rattle.call_fsm.specs.declared.table.CallEvent.TheVariants as call_event
@@ -36,12 +36,15 @@ use Rattle.call_link.specs.Laws.{LinkStep}
 use Rattle.end_model.specs.declared.event.Event.{Event}
 use Rattle.end_model.specs.declared.event.Event.TheVariants.{Datagram, Payload, Lower, Lcp, Hang, OpenTunnel, DropCall, CloseTunnel}
 use Rattle.end_model.specs.declared.out.Out.TheVariants.{Drop, Cause as Refused}
+use Rattle.end_model.specs.declared.moves.Move.TheVariants as move
+use Rattle.end_model.specs.declared.tunnel.Mode.{Mode}
+use Rattle.end_model.specs.declared.tunnel.Mode.TheVariants.{Current, Frozen, Restored}
 use Rattle.end_model.specs.Reading.{message_in}
 use Rattle.end_model.specs.Calls.{row_for, is_up, is_told, owes, is_short, is_long}
-use Rattle.end_model.specs.Tunnels.{Tunnel, Env, Turn, turn_of}
+use Rattle.end_model.specs.Tunnels.{Tunnel, Env, Turn, turn_of, turn_in, Recovering, mode_of, is_current}
 use Rattle.end_model.specs.Reasons.{reason}
-use Rattle.end_model.specs.Moments.{is_closed}
-use Rattle.end_model.specs.Stopping.{shuts_by, closes_tunnel}
+use Rattle.end_model.specs.Moments.{is_closed, is_open}
+use Rattle.end_model.specs.Stopping.{shuts_by, closes_tunnel, clears}
 use Rattle.end_model.specs.Turn.{with_output, with_move, drops}
 use Rattle.end_model.specs.Events.{with_calls, turns, tunnel_after}
 use Rattle.end_model.specs.Closing.{closes}
@@ -50,124 +53,44 @@ use Rattle.end_model.specs.Channels.{letter_of, has_room, learns_window}
 use Rattle.end_model.specs.Messages.{opening_of, told_by, flags_of}
 use Rattle.end_model.specs.Sending.{letters_after, gives, takes_one, lets_all_go, acknowledged_after, settles}
 use Rattle.end_model.specs.Ringing.{adds, rings_new, rings}
-use Rattle.end_model.specs.Hearing.{first_said, hears_control, hears_datagram}
+use Rattle.end_model.specs.Hearing.{first_said, mode_why, ignores_all, hears_control, hears_datagram}
 use Rattle.end_model.specs.Frames.{carries}
 use Rattle.end_model.specs.Linking.{hears_link, hears_lcp}
 use Rattle.end_model.specs.Links.{link_env, is_passing}
-use Rattle.end_model.specs.End.{End, Stepped, env_of, gives_only, placed, with_looks, after_turn, after_new}
+use Rattle.end_model.specs.End.{End, env_of, placed, with_looks, after_turn, after_new}
 use Rattle.step_laws.specs.Room.{IsChosen, RingsNew}
 use Rattle.step_laws.specs.Causes.{IsTold, ForNew, ForOpening, Stands}
 use Rattle.step_laws.specs.Links.{HearsLcp, IsCalled, ForFrame, IsGiven}
-use Rattle.step_laws.specs.Moves.{LacksSecret, has_all_tunnels, IsUnknown, Came, IsAgain, IsStop, IsFor, Hears, Chain, begun, WhyEnds, IsDropped, IsHungUp, ByOperator}
-use Rattle.step_laws.specs.Steps.{IsKept, AreKept, IsChain}
-use Rattle.step_laws.proofs.Lists.{all_map, and_left, and_right, branch, ascends_placed, ascends_looks}
+use Rattle.step_laws.specs.Moves.{LacksSecret, has_all_tunnels, IsUnknown, Came, IsAgain, IsStop, IsFor, ComesTo, Hears, Chain, WhyCleared, IsClosedNow, begun, WhyEnds, IsDropped, IsHungUp, ByOperator}
+use Rattle.step_laws.specs.Steps.{IsKept, AreKept}
+use Rattle.step_laws.proofs.Lists.{not_false, all_map, and_left, and_right, branch, chain_more}
 use Rattle.step_laws.proofs.Owing.{Fits, closed_owes, dropped_owes, fits_given, owes_told}
 use Rattle.step_laws.proofs.Openings.{not_all}
 use Rattle.step_laws.proofs.Tells.{Tells}
-use Rattle.step_laws.proofs.Turns.{IsWord, Stays, Held, held_given, held_learnt, next_after, at_turn, TurnOk, learnt_state, learnt_queued, drops_ok, adds_ok}
+use Rattle.step_laws.proofs.Turns.{IsWord, IsCurrent, Held, held_given, held_learnt, next_after, at_turn, there, TurnOk, learnt_state, learnt_queued, adds_ok}
 use Rattle.step_laws.proofs.Linking.{ended_stands, carried_ok, links_leave}
-use Rattle.step_laws.proofs.Settling.{Settled, unsent, settled_ok, settles_ok}
-use Rattle.step_laws.proofs.Sending.{at_last, word_is, ok_is}
+use Rattle.step_laws.proofs.Settling.{Settled, Goes, unsent, settled_so, settled_frozen, settles_ok, told_settled}
+use Rattle.step_laws.proofs.Sending.{word_is}
+use Rattle.step_laws.proofs.Leaving.{IsStep, whole_of, turn_chain, clears_chain}
 use Rattle.step_laws.proofs.Comes.{Fresh}
 use Rattle.step_laws.proofs.Closing.{ends_leave}
-use Rattle.step_laws.proofs.Shutting.{told_shut_ok}
+use Rattle.step_laws.proofs.Shutting.{all_ended_is, told_shut_ok}
 use Rattle.step_laws.proofs.Stopping.{row_shut, row_shut_closed}
 use Rattle.end_model.specs.Secrets.{challenge_by, response_by}
 use Rattle.step_laws.proofs.Secrets.{asks_so, responds_so}
 use Rattle.step_laws.proofs.Hearing.{hears_control_ok, rings_ok}
 
+-- a mode isn't a want of room
+mode_other : (m : Mode) → mode_why m ≡ why.Queue → ⊥
+mode_other Current h = absurd cc
+mode_other Frozen h = absurd cc
+mode_other Restored h = absurd cc
+
 -- a message that names the tunnel with an id, or names none and is for it
 abbrev pub IsTo : Header → List ℕ → ℕ → Control → Type 0
 IsTo h bytes i c = (h.tunnel ≡ i) ⊎ (IsAgain h (body_of bytes h) c ⊎ IsStop h (body_of bytes h) c)
 
--- a step that leads there, and what it tells is so
-pub record IsStep (e : End) (moment : ℕ) (ev : Event) (s : Stepped) : Type 0 where
-  pub chain : IsChain e moment ev s
-  pub tells : AllByRecursion (Tells e moment ev) s.outputs
-
 module _ (e : End) (kept : AreKept e) (moment : ℕ) (ev : Event) where
-  -- a step that tells one word
-  pub drop_chain : (w : Why) → (w ≡ why.Queue → ⊥) → IsStep e moment ev (gives_only e (Drop w))
-  unfolding gives_only
-  drop_chain w other =
-      record { chain = record { chain = refl; outputs = (tt, tt); frames = tt; kept = kept }; tells = ((λ q. absurd (other q)), tt) }
-
-  -- or one cause
-  pub cause_chain : (c : Cause) → Stands e moment ev c → IsStep e moment ev (gives_only e (Refused c))
-  unfolding gives_only
-  cause_chain c stands = record { chain = record { chain = refl; outputs = (tt, tt); frames = tt; kept = kept }; tells = (stands, tt) }
-
-  module _ (letters : List Letter) (calls : List (ℕ × Call)) (i : ℕ) (some : i ≡ 0 → ⊥) (r : Turn) where
-    abbrev left : End
-    left = (after_turn e i letters calls r).end
-
-    abbrev tunnel : Tunnel
-    tunnel = tunnel_after r letters calls
-
-    -- the end with these tunnels
-    abbrev left_with : List (ℕ × Tunnel) → End
-    left_with tunnels = record e {
-      tunnel_ids = r.ids.tunnels;
-      session_ids = r.ids.sessions;
-      tunnels = tunnels;
-      calls = with_looks r.changes (placed r.control.local r.added e.calls);
-    }
-
-    -- a turn that doesn't remove the tunnel
-    pub left_is : r.cleared ≡ false → left ≡ left_with (put e.tunnels i tunnel)
-    unfolding after_turn
-    left_is stays = rw stays refl
-
-    abbrev pub FitsAfter : Type 0
-    FitsAfter = Fits r.control (with_calls r.changed calls)
-
-    kept_with : Stays i moment r → Held r.control.channel.window (letters_after r letters) → FitsAfter → AreKept (left_with (put e.tunnels i tunnel))
-    kept_with s held fits = record {
-      tunnels = λ j u found. ⊎_elim
-          (λ (a : (j ≡ i) × (tunnel ≡ u)). subst (λ (x : Tunnel). IsKept j x) a.1 (record {
-            local = s.0 ∙ sym a.0;
-            some = λ z. some (sym a.0 ∙ z);
-            busy = s.1;
-            calls = fits.0;
-            letters = held.0;
-            outstanding = held.1;
-            calls_few = fits.1;
-            few = fits.2;
-            most = fits.4;
-            shut = fits.5;
-            owed = fits.3;
-            acked = held.2;
-          }))
-          (λ a. kept.tunnels j u a.1)
-          (found_put e.tunnels i tunnel j u found);
-      order = ascends-put i tunnel e.tunnels kept.order;
-      places = ascends_looks r.changes _ (ascends_placed r.control.local r.added e.calls kept.places);
-      sessions = s.2;
-      first = s.3;
-    }
-
-    kept_after : Stays i moment r → Held r.control.channel.window (letters_after r letters) → FitsAfter → AreKept left
-    kept_after s held fits = subst AreKept (sym (left_is s.5)) (kept_with s held fits)
-
-    chain_after : Stays i moment r → Chain moment ev e r.moves (at_turn e moment ev letters calls i r) → Chain moment ev e r.moves left
-    chain_after s h =
-        subst (Chain moment ev e r.moves) (sym (left_is s.5)) (subst (λ k. Chain moment ev e r.moves (left_with (put e.tunnels k tunnel))) s.0 h)
-
-    there_after : r.cleared ≡ false → at left.tunnels i ≡ Some tunnel
-    there_after stays = ap (λ (x : End). at x.tunnels i) (left_is stays) ∙ at_new e.tunnels i tunnel
-
-    pub turn_chain : Settled e moment ev letters calls i r → IsStep e moment ev (after_turn e i letters calls r)
-    unfolding after_turn
-    turn_chain h = let whole = chain_after h.stays h.chain in record {
-      chain = record {
-        chain = whole;
-        outputs = all_map _ _ (ok_is moment ev e r.moves left (at_last moment ev e r.moves left whole) i tunnel (there_after h.stays.5)) r.outputs h.outs;
-        frames = h.frames;
-        kept = kept_after h.stays h.held h.fits;
-      };
-      tells = h.tells;
-    }
-
   -- ---- a tunnel that is there
 
   module _ (block : List ℕ) where
@@ -179,18 +102,18 @@ module _ (e : End) (kept : AreKept e) (moment : ℕ) (ev : Event) where
       k = kept.tunnels i t is
 
       abbrev start : Turn
-      start = turn_of t.control env
+      start = turn_in t env
 
-      there : at e.tunnels t.control.local ≡ Some t
-      there = subst (λ j. at e.tunnels j ≡ Some t) (sym k.local) is
+      is_there : at e.tunnels t.control.local ≡ Some t
+      is_there = subst (λ j. at e.tunnels j ≡ Some t) (sym k.local) is
 
       -- the turn has taken no letter from the tunnel, and given it none
-      same : tunnel_after start t.letters t.calls ≡ t
+      same : tunnel_after start t.letters t.calls t.recovery ≡ t
       unfolding with_calls
       same = rw (append-nil t.letters) refl
 
-      again : put e.tunnels t.control.local (tunnel_after start t.letters t.calls) ≡ e.tunnels
-      again = rw same (put-again t.control.local t e.tunnels kept.order there)
+      again : put e.tunnels t.control.local (tunnel_after start t.letters t.calls t.recovery) ≡ e.tunnels
+      again = rw same (put-again t.control.local t e.tunnels kept.order is_there)
 
       held_first : Held t.control.channel.window (letters_after start t.letters)
       held_first = rw (append-nil t.letters) (k.letters, k.outstanding, k.acked)
@@ -198,15 +121,41 @@ module _ (e : End) (kept : AreKept e) (moment : ℕ) (ev : Event) where
       fits_first : Fits t.control t.calls
       fits_first = (k.calls, k.calls_few, k.few, k.owed, k.most, k.shut)
 
-      pub begins : Fresh e moment ev t.letters t.calls i start
+      chain_first : Chain moment ev e [] (at_turn e moment ev t.letters t.calls t.recovery i start)
       unfolding with_calls with_looks placed
-      begins = record {
+      chain_first = ap (λ ts. record e { tunnels = ts }) (sym again)
+
+      -- a turn begins settled
+      goes_first : Goes e moment ev t.letters t.calls t.recovery i start
+      goes_first = by (is_current (mode_of t.recovery)) refl
+        where
+          by : (b : Bool) → is_current (mode_of t.recovery) ≡ b → Goes e moment ev t.letters t.calls t.recovery i start
+          by true is = inl is
+          by false is = inr (k.frozen is, refl)
+
+      pub begins_settled : Settled e moment ev t.letters t.calls t.recovery i start
+      unfolding with_calls
+      begins_settled = record {
+        chain = chain_first;
+        outs = tt;
+        tells = tt;
+        frames = tt;
+        stays = (k.local, k.busy, kept.sessions, kept.first, refl, refl, refl);
+        goes = goes_first;
+        held = held_first;
+        fits = fits_first;
+      }
+
+      pub begins : IsCurrent t.recovery → Fresh e moment ev t.letters t.calls t.recovery i start
+      unfolding with_calls
+      begins current = record {
         good = record {
-          chain = ap (λ ts. record e { tunnels = ts }) (sym again);
+          chain = chain_first;
           words = tt;
           tells = tt;
           frames = tt;
-          stays = (k.local, k.busy, kept.sessions, kept.first, refl, refl);
+          stays = (k.local, k.busy, kept.sessions, kept.first, refl, refl, refl);
+          current = current;
           held = held_first;
           fits = fits_first;
         };
@@ -224,16 +173,22 @@ module _ (e : End) (kept : AreKept e) (moment : ℕ) (ev : Event) where
         some = k.some;
       }
 
-      abbrev leads : Turn → Type 0
-      leads r = IsStep e moment ev (after_turn e i t.letters t.calls r)
+      abbrev Good : Turn → Type 0
+      Good r = Settled e moment ev t.letters t.calls t.recovery i r
 
-      settled_leads : (r : Turn) → Settled e moment ev t.letters t.calls i r → leads r
-      settled_leads r h = turn_chain t.letters t.calls i k.some r h
+      abbrev leads : Turn → Type 0
+      leads r = IsStep e moment ev (after_turn e i t.letters t.calls t.recovery r)
+
+      settled_leads : (r : Turn) → Settled e moment ev t.letters t.calls t.recovery i r → leads r
+      settled_leads r h = turn_chain e kept moment ev t.letters t.calls t.recovery i k.some r k.recovering h
+
+      dropped_settled : (w : Why) → (w ≡ why.Queue → ⊥) → Settled e moment ev t.letters t.calls t.recovery i (drops w start)
+      unfolding drops
+      dropped_settled w other = told_settled e moment ev t.letters t.calls t.recovery i (Drop w) tt (λ q. absurd (other q)) start begins_settled
 
       dropped_leads : (w : Why) → (w ≡ why.Queue → ⊥) → leads (drops w start)
       dropped_leads w other =
-          settled_leads _
-          (unsent e moment ev t.letters t.calls i _ (drops_ok e moment ev t.letters t.calls i w (λ q. absurd (other q)) start begins.good))
+          settled_leads _ (dropped_settled w other)
 
       -- the message names the tunnel, or names none and is for it
       came : Header → List ℕ → Came
@@ -242,6 +197,50 @@ module _ (e : End) (kept : AreKept e) (moment : ℕ) (ev : Event) where
       is_for : (h : Header) (bytes : List ℕ) → IsTo h bytes i t.control → IsFor h (body_of bytes h) t.control
       is_for h bytes to = ⊎_elim (λ named. inl (named ∙ sym k.local)) (λ unnamed. inr unnamed) to
 
+      -- a tunnel that is frozen or restored looks at nothing
+      ignored_ok : (c : Came) → is_current (mode_of t.recovery) ≡ false → ComesTo ev t.control c → Good (ignores_all start)
+      unfolding ignores_all drops with_output with_move with_calls
+      ignored_ok c inactive to =
+          let h = begins_settled in
+          record {
+            chain = chain_more moment ev e (at_turn e moment ev t.letters t.calls t.recovery i start) _ [] (move.Ignored t.control.local) h.chain (record {
+              tunnel = tunnel_after start t.letters t.calls t.recovery;
+              there = there e moment ev t.letters t.calls t.recovery i start;
+              inactive = inactive;
+              letter = c;
+              comes = to;
+              after = rw (put-put e.tunnels t.control.local (tunnel_after start t.letters t.calls t.recovery) _) refl;
+            });
+            outs = (tt, tt);
+            tells = ((λ q. absurd (mode_other (mode_of t.recovery) q)), tt);
+            frames = (tt, tt);
+            stays = h.stays;
+            goes = inr (k.frozen inactive, refl);
+            held = h.held;
+            fits = h.fits;
+          }
+
+      inactive_ok : (c : Came) → is_current (mode_of t.recovery) ≡ false → ComesTo ev t.control c
+          → Good (hears_control e.role e.config t.letters t.calls c.header c.body start)
+      unfolding hears_control
+      inactive_ok c inactive to =
+          branch Good (state_number t.control.state == 0) _ _
+          (λ idle. absurd (k.busy (eqb-true (state_number t.control.state) 0 idle)))
+          (λ busy. branch Good (not (is_current (mode_of t.recovery))) _ _
+          (λ other. ignored_ok c inactive to)
+          (λ active. absurd (true≢false (sym (not_false _ active) ∙ inactive))))
+
+      heard_current : (c : Came) → ComesTo ev t.control c → IsCurrent t.recovery → Good (hears_control e.role e.config t.letters t.calls c.header c.body start)
+      unfolding begins
+      heard_current c to current = hears_control_ok e moment ev t.letters t.calls t.recovery i k.calls c start (begins current) refl to refl refl
+
+      control_ok : (c : Came) → ComesTo ev t.control c → Good (hears_control e.role e.config t.letters t.calls c.header c.body start)
+      control_ok c to = by (is_current (mode_of t.recovery)) refl
+        where
+          by : (b : Bool) → is_current (mode_of t.recovery) ≡ b → Good (hears_control e.role e.config t.letters t.calls c.header c.body start)
+          by true current = heard_current c to current
+          by false inactive = inactive_ok c inactive to
+
       pub heard_chain : (bytes : List ℕ) (h : Header) → header_of bytes ≡ Ok h → h.control ≡ true → ev ≡ Datagram t.control.peer bytes
           → IsTo h bytes i t.control → leads (turns e.role e.config t.letters t.calls (Datagram t.control.peer bytes) start)
       unfolding turns hears_datagram begins came
@@ -249,40 +248,38 @@ module _ (e : End) (kept : AreKept e) (moment : ℕ) (ev : Event) where
           subst (λ r. leads (hears_datagram e.role e.config t.letters t.calls bytes r start)) (sym read)
           (branch leads h.control _ _
           (λ c. settled_leads _
-          (hears_control_ok e moment ev t.letters t.calls i k.calls (came h bytes) start begins refl (record {
+          (control_ok (came h bytes) (record {
             came = record { bytes = bytes; is = same; read = read; control = control; body_is = refl };
             peer = refl;
             tunnel = is_for h bytes to;
-          }) refl refl))
+          })))
           (λ c. absurd (true≢false (sym control ∙ c))))
 
-      pub rung_chain : (who : List ℕ) → (state_number t.control.state ≡ 3) ⊎ (state_number t.control.state ≡ 1) → IsChosen e i → IsRing ev who
+      pub rung_chain : (who : List ℕ) → IsCurrent t.recovery → (state_number t.control.state ≡ 3) ⊎ (state_number t.control.state ≡ 1) → IsChosen e i → IsRing ev who
           → WantsTunnel e ev t.control.peer → leads (turns e.role e.config t.letters t.calls ev start)
       unfolding begins
-      rung_chain who goes chosen same wants =
+      rung_chain who current goes chosen same wants =
           subst leads (sym (turns_ring e.role e.config t.letters t.calls ev who start same))
-          (settled_leads _ (settles_ok e moment ev t.letters t.calls i false _
-          (rings_ok e moment ev t.letters t.calls i k.calls who start begins refl chosen same wants goes)))
+          (settled_leads _ (settles_ok e moment ev t.letters t.calls t.recovery i false _
+          (rings_ok e moment ev t.letters t.calls t.recovery i k.calls who start (begins current) refl chosen same wants goes)))
 
       -- a call is closed by an event of its table
-      closed_chain : (for : Cause) (on : CallEvent) (result s : ℕ) → ((c : Call) → WhyEnds (at_turn e moment ev t.letters t.calls i start) (tunnel_after start t.letters t.calls) ev moment s c on result None)
+      closed_chain : (for : Cause) (on : CallEvent) (result s : ℕ) → ((c : Call) → WhyEnds (at_turn e moment ev t.letters t.calls t.recovery i start) (tunnel_after start t.letters t.calls t.recovery) ev moment s c on result None)
           → ((c : Call) → is_told (row_for e.role c on).1 ≡ true → 1 ≤ owes c.state) → (IsTold e t s on → Stands e moment ev for)
           → (o : Option Call) → at t.calls s ≡ o
           → leads (settles false t.letters (closes e.role for on result s o start))
       unfolding closes with_calls
       closed_chain for on result s so owed stands None found =
-          settled_leads _
-          (settles_ok e moment ev t.letters t.calls i false _ (drops_ok e moment ev t.letters t.calls i why.Call (λ q. absurd cc) start begins.good))
+          settled_leads _ (settled_so e moment ev t.letters t.calls t.recovery i _ (dropped_settled why.Call (λ q. absurd cc)))
       closed_chain for on result s so owed stands (Some c) found =
           branch (λ u. leads (settles false t.letters u)) (nat_lt s 65536) _ _
-          (λ small. settled_leads _ (settled_ok e moment ev t.letters t.calls i false _
-          (ends_leave e moment ev t.letters t.calls i for s c on result None start found (so c) (ltb-true s 65536 small)
-          (λ told. (
+          (λ small. settled_leads _ (settled_so e moment ev t.letters t.calls t.recovery i _
+          (ends_leave e moment ev t.letters t.calls t.recovery i for s c on result None start found (so c) (ltb-true s 65536 small)
+          (λ told current. (
             owes_told t.control t.calls s c found (owed c told) fits_first,
-            stands (record { id = i; there = is; call = c; live = found; row = told }),
-          )) (row_for e.role c on).1 refl
-          (unsent e moment ev t.letters t.calls i start begins.good)).ok))
-          (λ big. settled_leads _ (settles_ok e moment ev t.letters t.calls i false start begins.good))
+            stands (record { id = i; there = is; current = current; call = c; live = found; row = told }),
+          )) (row_for e.role c on).1 refl begins_settled).ok))
+          (λ big. settled_leads _ (settled_so e moment ev t.letters t.calls t.recovery i start begins_settled))
 
       pub hung_chain : (s : ℕ) → ev ≡ Hang s → leads (turns e.role e.config t.letters t.calls (Hang s) start)
       unfolding turns
@@ -297,25 +294,52 @@ module _ (e : End) (kept : AreKept e) (moment : ℕ) (ev : Event) where
           (λ told. inl (s, t, comes, told)) (at t.calls s) refl
 
       -- the tunnel is closed by its table, unless it is already
-      shut_start : ev ≡ CloseTunnel i → is_closed t.control.state ≡ false
-          → Settled e moment ev t.letters t.calls i (closes_tunnel (reason cause.Operator 1 None) t.calls t.control.remote state.Closed start)
-      shut_start comes live =
+      shut_start : IsCurrent t.recovery → ev ≡ CloseTunnel i → is_closed t.control.state ≡ false
+          → Settled e moment ev t.letters t.calls t.recovery i (closes_tunnel (reason cause.Operator 1 None) t.calls t.control.remote state.Closed start)
+      shut_start current comes live =
           let row = row_shut t.control.state event.AdminClose k.busy live tt in
-          unsent e moment ev t.letters t.calls i _ (told_shut_ok e moment ev t.letters t.calls i (reason cause.Operator 1 None)
-          (inr (i, t, comes, is, record { id = i; there = is; row = row })) event.AdminClose t.control.remote start refl live row
-          (λ m to remote result error. ByOperator (comes ∙ ap CloseTunnel (sym (to ∙ k.local))) refl remote result error) begins.good)
+          unsent e moment ev t.letters t.calls t.recovery i _ (told_shut_ok e moment ev t.letters t.calls t.recovery i (reason cause.Operator 1 None)
+          (inr (i, t, comes, is, record { id = i; there = is; current = current; row = row })) event.AdminClose t.control.remote start refl live row
+          (λ m to remote result error. ByOperator (comes ∙ ap CloseTunnel (sym (to ∙ k.local))) refl remote result error) (begins current).good)
+
+      -- it is removed with its calls
+      pub removed_step : (left : Option Recovering) → WhyCleared (at_turn e moment ev t.letters t.calls t.recovery i start) moment ev i (tunnel_after start t.letters t.calls t.recovery)
+          → IsStep e moment ev (after_turn e i t.letters t.calls left (clears t.calls start))
+      unfolding with_calls
+      removed_step left why_first =
+          clears_chain e kept moment ev t.letters t.calls t.recovery i k.some start left
+          (whole_of e kept moment ev t.letters t.calls t.recovery i k.some start k.recovering begins_settled) why_first
+
+      -- nothing follows on that
+      cleared_settles : is_current (mode_of t.recovery) ≡ false → settles false t.letters (clears t.calls start) ≡ clears t.calls start
+      unfolding clears with_move
+      cleared_settles inactive =
+          rw (all_ended_is (ids_of t.calls) (with_move (move.Cleared t.control.local (is_open t.control.state)) start))
+          (settled_frozen e moment ev t.letters t.calls t.recovery i _ (k.frozen inactive) refl)
+
+      cleared_shut : ev ≡ CloseTunnel i → is_current (mode_of t.recovery) ≡ false → leads (settles false t.letters (clears t.calls start))
+      cleared_shut comes inactive =
+          subst leads (sym (cleared_settles inactive)) (removed_step t.recovery (IsClosedNow comes inactive))
 
       abbrev Shut : TunnelState × TunnelAction → Type 0
-      Shut row = Settled e moment ev t.letters t.calls i (shuts_by t.calls row start)
+      Shut row = leads (settles false t.letters (shuts_by t.calls row start))
+
+      shut_live : ev ≡ CloseTunnel i → is_closed t.control.state ≡ false → Shut (state.Closed, action.SendStopCcn)
+      unfolding shuts_by
+      shut_live comes live =
+          branch (λ u. leads (settles false t.letters u)) (is_current (mode_of t.recovery)) _ _
+          (λ current. settled_leads _ (settled_so e moment ev t.letters t.calls t.recovery i _ (shut_start current comes live)))
+          (λ inactive. cleared_shut comes inactive)
 
       pub shut_chain : ev ≡ CloseTunnel i → leads (turns e.role e.config t.letters t.calls (CloseTunnel i) start)
       unfolding turns shuts_by
-      shut_chain comes = settled_leads _ (settled_ok e moment ev t.letters t.calls i false _ (by (is_closed t.control.state) refl))
+      shut_chain comes = by (is_closed t.control.state) refl
         where
           by : (b : Bool) → is_closed t.control.state ≡ b → Shut (row_of rows t.control.state event.AdminClose)
-          by false live = subst Shut (sym (row_shut t.control.state event.AdminClose k.busy live tt)) (shut_start comes live)
+          by false live = subst Shut (sym (row_shut t.control.state event.AdminClose k.busy live tt)) (shut_live comes live)
           by true closed =
-              subst Shut (sym (row_shut_closed t.control.state closed)) (unsent e moment ev t.letters t.calls i start begins.good)
+              subst Shut (sym (row_shut_closed t.control.state closed))
+              (settled_leads _ (settled_so e moment ev t.letters t.calls t.recovery i start begins_settled))
 
       pub carries_chain : (s : ℕ) (frame : List ℕ) (o : Option Call) → at t.calls s ≡ o → (ev ≡ Payload s frame) ⊎ (ev ≡ Lower s frame)
           → leads (carries s frame o start)
@@ -325,8 +349,8 @@ module _ (e : End) (kept : AreKept e) (moment : ℕ) (ev : Event) where
           branch leads (is_up c.state && is_passing c.link) _ _
           (λ up. branch leads (is_short frame) _ _ (λ short. dropped_leads why.Short (λ q. absurd cc))
           (λ short. branch leads (is_long frame) _ _ (λ long. dropped_leads why.Long (λ q. absurd cc))
-          (λ long. settled_leads _ (carried_ok e moment ev t.letters t.calls i s frame c start found (and_left (is_up c.state) _ up)
-          (IsGiven given (and_right (is_up c.state) _ up)) (unsent e moment ev t.letters t.calls i start begins.good)))))
+          (λ long. settled_leads _ (carried_ok e moment ev t.letters t.calls t.recovery i s frame c start found (and_left (is_up c.state) _ up)
+          (IsGiven given (and_right (is_up c.state) _ up)) begins_settled))))
           (λ down. dropped_leads why.Closed (λ q. absurd cc))
 
       -- a frame for its link came up a call
@@ -337,19 +361,20 @@ module _ (e : End) (kept : AreKept e) (moment : ℕ) (ev : Event) where
       link_chain s peer frame c found up small hears (Some l) has =
           let by : LinkStep = record { env = link_env start.on; call = HearsIt frame } in
           let called : IsCalled ev moment t.control s l by = ForFrame peer frame hears refl in
-          settled_leads _ (links_leave e moment ev t.letters t.calls i s c l by start
+          settled_leads _ (links_leave e moment ev t.letters t.calls t.recovery i s c l by start
           (record { found = found; has = has; up = up; at_moment = refl; called = called }) small
-          (λ why ends told. ended_stands e moment ev by l why ends (record {
+          (λ why ends told current. ended_stands e moment ev by l why ends (record {
             id = i;
             tunnel = t;
             there = is;
+            current = current;
             session = s;
             call = c;
             live = found;
             ends = record { calls = record { link = l; has = has; by = by; at_moment = refl; called = called }; ends = ends };
             row = told;
           }))
-          (unsent e moment ev t.letters t.calls i start begins.good)).ok
+          begins_settled).ok
 
       pub lcp_chain : (s peer : ℕ) (frame : List ℕ) → HearsLcp ev peer t.control.local s frame
           → leads (turns e.role e.config t.letters t.calls (Lcp s frame) start)
@@ -379,7 +404,7 @@ module _ (e : End) (kept : AreKept e) (moment : ℕ) (ev : Event) where
       record IsMade (r : Turn) : Type 0 where
         id : ℕ
         some : id ≡ 0 → ⊥
-        good : TurnOk e moment ev [] [] id r
+        good : TurnOk e moment ev [] [] None id r
 
       abbrev leads_new : Turn → Type 0
       leads_new r = IsStep e moment ev (after_new e r)
@@ -397,11 +422,11 @@ module _ (e : End) (kept : AreKept e) (moment : ℕ) (ev : Event) where
       unfolding after_new
       made_leads r h =
           let u = settles false [] r in
-          let settled = settles_ok e moment ev [] [] h.id false r h.good in
+          let settled = settles_ok e moment ev [] [] None h.id false r h.good in
           let local = settled.stays.0 in
           branch (IsStep e moment ev) (u.control.local == 0) _ _
           (λ zero. absurd (h.some (sym local ∙ eqb-true u.control.local 0 zero)))
-          (λ some. subst (λ j. IsStep e moment ev (after_turn e j [] [] u)) (sym local) (turn_chain [] [] h.id h.some u settled))
+          (λ some. subst (λ j. IsStep e moment ev (after_turn e j [] [] None u)) (sym local) (turn_chain e kept moment ev [] [] None h.id h.some u (λ q none. absurd cc) settled))
 
       refused_new : (c : Cause) → Stands e moment ev c → leads_new (settles false [] (with_output (Refused c) blank))
       unfolding with_output settles acknowledged_after lets_all_go
@@ -415,14 +440,15 @@ module _ (e : End) (kept : AreKept e) (moment : ℕ) (ev : Event) where
       unfolding takes_id
       drawn_some n is zero = let first = kept.first in grind (arith, rules)
 
-      opened_good : (local : ℕ) → length e.tunnels < 1024 → WantsTunnel e ev peer → takes_id e.tunnel_ids ≡ Ok local → TurnOk e moment ev [] [] local (opened e.role e.config local blank)
+      opened_good : (local : ℕ) → length e.tunnels < 1024 → WantsTunnel e ev peer → takes_id e.tunnel_ids ≡ Ok local → TurnOk e moment ev [] [] None local (opened e.role e.config local blank)
       unfolding opened gives with_move with_local with_calls with_looks placed
       opened_good local fewer wants drawn = record {
         chain = (_, record { few = fewer; drawn = drawn; given = refl; wants = wants; asks = asks_so e.config.secret block; after = refl }, refl);
         words = tt;
         tells = tt;
         frames = (tt, tt);
-        stays = (refl, (λ z. absurd (omega (arith, z))), kept.sessions, next_after e.tunnel_ids kept.first, refl, refl);
+        stays = (refl, (λ z. absurd (omega (arith, z))), kept.sessions, next_after e.tunnel_ids kept.first, refl, refl, refl);
+        current = refl;
         held = (refl, omega arith, omega arith);
         fits = (ascends-empty [] refl, omega arith, (λ live. omega arith), (λ o. omega arith), omega arith, (λ closed. refl));
       }
@@ -439,10 +465,10 @@ module _ (e : End) (kept : AreKept e) (moment : ℕ) (ev : Event) where
               (λ full. absurd (true≢false full))
 
       rung_good : (who : List ℕ) (s local : ℕ) → length e.tunnels < 1024 → WantsTunnel e ev peer → IsRing ev who → takes_id e.session_ids ≡ Ok s
-          → takes_id e.tunnel_ids ≡ Ok local → TurnOk e moment ev [] [] local (adds e.role who s (opened e.role e.config local blank))
+          → takes_id e.tunnel_ids ≡ Ok local → TurnOk e moment ev [] [] None local (adds e.role who s (opened e.role e.config local blank))
       unfolding opened gives with_move with_local with_calls
       rung_good who s local fewer wants rings session drawn =
-          adds_ok e moment ev [] [] local who s (opened e.role e.config local blank) refl refl refl refl rings wants session (opened_good local fewer wants drawn)
+          adds_ok e moment ev [] [] None local who s (opened e.role e.config local blank) refl refl refl refl rings wants session (opened_good local fewer wants drawn)
 
       pub rings_chain : (who : List ℕ) → WantsTunnel e ev peer → IsRing ev who → RingsNew e ev → has_all_tunnels e ≡ false
           → leads_new (turns e.role e.config [] [] ev blank)
@@ -478,7 +504,7 @@ module _ (e : End) (kept : AreKept e) (moment : ℕ) (ev : Event) where
       MayMake o = IsUnknown e peer o.tunnel × ((length e.tunnels < 1024) × (LacksSecret e.config.secret o.challenge → ⊥))
 
       accepted_good : (session local : ℕ) (o : Opening) → Hears ev peer session (Sccrq o) → MayMake o
-          → takes_id e.tunnel_ids ≡ Ok local → TurnOk e moment ev [] [] local (accepted e.role e.config (told_by o) local blank)
+          → takes_id e.tunnel_ids ≡ Ok local → TurnOk e moment ev [] [] None local (accepted e.role e.config (told_by o) local blank)
       unfolding accepted gives with_move with_local takes_one with_calls with_looks placed
       accepted_good session local o hears may drawn = record {
         chain = (
@@ -503,7 +529,8 @@ module _ (e : End) (kept : AreKept e) (moment : ℕ) (ev : Event) where
         words = tt;
         tells = tt;
         frames = (tt, tt);
-        stays = (refl, rw (learnt_state o.window (accepting o 0)) (λ z. absurd (omega (arith, z))), kept.sessions, next_after e.tunnel_ids kept.first, refl, refl);
+        stays = (refl, rw (learnt_state o.window (accepting o 0)) (λ z. absurd (omega (arith, z))), kept.sessions, next_after e.tunnel_ids kept.first, refl, refl, refl);
+        current = refl;
         held = let c = accepting o 0 in
             held_given (learns_window o.window c).channel.window [] (letter_of 0 (Sccrp (opening_of e.role e.config asked (response_by 2 e.config.secret o.challenge) local)))
             (held_learnt o.window c [] (refl, omega arith, omega arith));

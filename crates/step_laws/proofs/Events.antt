@@ -4,7 +4,7 @@ use Rattle.end_names.specs.Names.{subscriber}
 use Rattle.std.proofs.Common.{◌≡◌, ◌⊎◌, inl, inr, ℕ, false, List, ◌++◌, length, refl, ◌∙◌, Some, Result, Ok, Err, arith}
 use Rattle.std.proofs.lemmas.Grind.{flat_map-append}
 use Rattle.std.proofs.lemmas.List.{length-append}
-use Rattle.std.specs.Prelude.{◌==◌, unwrap_or}
+use Rattle.std.specs.Prelude.{◌==◌, unwrap_or, not}
 use Rattle.std.specs.List.{flat_map}
 use Rattle.id_table.specs.Ids.{at}
 use Rattle.id_source.specs.Spaces.{takes_id}
@@ -32,17 +32,17 @@ use Rattle.end_model.specs.declared.moves.Move.{Move}
 use Rattle.session_looks.specs.Frames.{header_why}
 use Rattle.end_model.specs.Reading.{message_in}
 use Rattle.end_model.specs.Calls.{rung, are_too_many}
-use Rattle.end_model.specs.Tunnels.{Ground, Turn}
+use Rattle.end_model.specs.Tunnels.{Ground, Turn, is_current}
 use Rattle.end_model.specs.Turn.{with_move, with_new}
 use Rattle.end_model.specs.Channels.{has_room, may_take}
 use Rattle.end_model.specs.Sending.{reads_nr}
 use Rattle.end_model.specs.Openings.{opened}
 use Rattle.end_model.specs.Ringing.{adds, rings_over, rings_by, rings_new, rings, rings_within}
-use Rattle.end_model.specs.Hearing.{hears_control, hears_datagram}
+use Rattle.end_model.specs.Hearing.{hears_control, hears_datagram, ignores_all, mode_why}
 use Rattle.end_model.specs.Events.{turns}
 use Rattle.step_laws.specs.Ups.{ups_of_output, ups_of_move, births_of_move, reads_of_move, most_births, most_reads}
 use Rattle.step_laws.proofs.Lists.{all_append, branch}
-use Rattle.step_laws.proofs.Quiet.{SentSo, AreQuiet, IsQuiet, AreSo, OpensSo, TicksSo, settled, first_quiet, in_tunnel_quiet, dropped, unread, with_read, with_birth, spared, caused, requests_quiet, opened_quiet, carries_quiet, hears_lcp_quiet, closes_quiet, shuts_by_quiet, opens_quiet, ticks_quiet}
+use Rattle.step_laws.proofs.Quiet.{SentSo, AreQuiet, IsQuiet, AreSo, OpensSo, TicksSo, settled, first_quiet, in_tunnel_quiet, dropped, unread, with_read, with_birth, spared, caused, requests_quiet, opened_quiet, carries_quiet, hears_lcp_quiet, closes_quiet, shuts_by_quiet, opens_quiet, ticks_quiet, did}
 
 module _ (F : ℕ → List ℕ → Type 0) (on : Ground) where
   -- ---- datagrams: Nr is read before the letter is heard
@@ -51,6 +51,10 @@ module _ (F : ℕ → List ℕ → Type 0) (on : Ground) where
   unfolding reads_nr with_move
   read_quiet nr t h = with_read F on _ t.control.local refl refl refl tt h
 
+  ignores_quiet : (t : Turn) → IsQuiet F on 0 0 t → IsQuiet F on 0 1 (ignores_all t)
+  unfolding ignores_all with_move
+  ignores_quiet t h = dropped F on 0 1 (mode_why t.on.mode) _ (did F on _ refl refl refl tt (unread F on h))
+
   control_quiet : (role : Role) (c : Config) (letters : List Letter) (calls : List (ℕ × Call)) (k : Header) (body : List ℕ) (t : Turn)
       → ((s : ℕ) → OpensSo F on 0 1 role s (at calls s)) → IsQuiet F on 0 0 t
       → IsQuiet F on 0 1 (hears_control role c letters calls k body t)
@@ -58,9 +62,11 @@ module _ (F : ℕ → List ℕ → Type 0) (on : Ground) where
   control_quiet role c letters calls k body t so h =
       branch (IsQuiet F on 0 1) (state_number t.control.state == 0) _ _
       (λ idle. settled F on 0 1 false letters _ (first_quiet F on 0 1 role c (message_in body) t (unread F on h)))
-      (λ busy.
+      (λ busy. branch (IsQuiet F on 0 1) (not (is_current t.on.mode)) _ _
+      (λ inactive. ignores_quiet t h)
+      (λ active.
       let class = class_told t.control.channel (unwrap_or k.ns 0) (length body == 0) in
-      in_tunnel_quiet F on 0 1 role c letters calls k.session body class _ so (read_quiet (unwrap_or k.nr 0) t h))
+      in_tunnel_quiet F on 0 1 role c letters calls k.session body class _ so (read_quiet (unwrap_or k.nr 0) t h)))
 
   datagram_quiet : (role : Role) (c : Config) (letters : List Letter) (calls : List (ℕ × Call)) (bytes : List ℕ) (r : Result Header HeaderError) (t : Turn)
       → ((s : ℕ) → OpensSo F on 0 1 role s (at calls s)) → IsQuiet F on 0 0 t → IsQuiet F on 0 1 (hears_datagram role c letters calls bytes r t)

@@ -362,7 +362,7 @@ of_tunnel body g h = tunnel_pairs body (avps_of body) g refl h
 -- its cause stands, where the tunnel is closed for it
 pub closing_stands : (e : End) (moment : ℕ) (ev : Event) (c : CauseOf) → (c ≡ cause.Avp) ⊎ IsOfFault c → CameClosing e ev c → Stands e moment ev c
 closing_stands e moment ev c is came = ⊎_elim
-    (λ (avp : c ≡ cause.Avp). subst (Stands e moment ev) (sym avp) (subst (CameClosing e ev) avp came))
+    (λ (avp : c ≡ cause.Avp). subst (Stands e moment ev) (sym avp) (inl (subst (CameClosing e ev) avp came)))
     (λ other. ⊎_elim
     (λ (value : c ≡ cause.Value). subst (Stands e moment ev) (sym value) (inr (inl (subst (CameClosing e ev) value came))))
     (λ (mandatory : c ≡ cause.Mandatory). subst (Stands e moment ev) (sym mandatory) (inr (inl (subst (CameClosing e ev) mandatory came))))
@@ -409,6 +409,6 @@ of_opening body avps read NoMemory made g named inner h = of_sccrq body avps rea
 -- its cause stands, where the opening is declined for it
 pub opening_fault_stands : (e : End) (moment : ℕ) (ev : Event) (c : CauseOf) → IsOfFault c → CameFaultyOpening e ev c → Stands e moment ev c
 opening_fault_stands e moment ev c is came = ⊎_elim
-    (λ (value : c ≡ cause.Value). subst (Stands e moment ev) (sym value) (inr (inr (subst (CameFaultyOpening e ev) value came))))
-    (λ (mandatory : c ≡ cause.Mandatory). subst (Stands e moment ev) (sym mandatory) (inr (inr (subst (CameFaultyOpening e ev) mandatory came))))
+    (λ (value : c ≡ cause.Value). subst (Stands e moment ev) (sym value) (inr (inr (inl (subst (CameFaultyOpening e ev) value came)))))
+    (λ (mandatory : c ≡ cause.Mandatory). subst (Stands e moment ev) (sym mandatory) (inr (inr (inl (subst (CameFaultyOpening e ev) mandatory came)))))
     is

@@ -13,14 +13,13 @@ use Rattle.call_fsm.specs.declared.table.CallAction.{CallAction}
 use Rattle.call_fsm.specs.declared.table.CallAction.TheVariants as call_action
 use Rattle.call_fsm.specs.declared.table.CallEvent.{CallEvent}
 use Rattle.call_fsm.specs.declared.table.CallEvent.TheVariants as call_event
-use Rattle.call_fsm.specs.declared.table.CallState.TheVariants as call
 use Rattle.end_model.specs.declared.tunnel.Call.{Call}
 use Rattle.end_names.specs.declared.role.Role.{Role}
 use Rattle.end_names.specs.declared.role.Role.TheVariants.{Lac, Lns}
 use Rattle.end_model.specs.declared.event.Event.{Event}
 use Rattle.end_model.specs.Reading.{message_in, CallFault, call_fault_in}
 use Rattle.end_model.specs.Calls.{call_row, row_of_none}
-use Rattle.end_model.specs.Tunnels.{Turn}
+use Rattle.end_model.specs.Tunnels.{Turn, Recovering}
 use Rattle.end_model.specs.Reasons.{fault_reason}
 use Rattle.end_model.specs.Sending.{takes_plain, takes_one, ignores}
 use Rattle.end_model.specs.Turn.{with_move}
@@ -45,28 +44,28 @@ unfolding call_row
 untold_of_connection Lac h = absurd cc
 untold_of_connection Lns h = absurd cc
 
-module _ (e : End) (moment : ℕ) (ev : Event) (letters : List Letter) (calls : List (ℕ × Call)) (i : ℕ) where
+module _ (e : End) (moment : ℕ) (ev : Event) (letters : List Letter) (calls : List (ℕ × Call)) (recovery : Option Recovering) (i : ℕ) where
   abbrev Good : Turn → Type 0
-  Good t = Settled e moment ev letters calls i t
+  Good t = Settled e moment ev letters calls recovery i t
 
-  module _ (t : Turn) (f : Taking e moment ev letters calls i t) (k : Came) (next : IsNext ev (now e moment ev letters calls i t) k) (w : Why)
+  module _ (t : Turn) (f : Taking e moment ev letters calls recovery i t) (k : Came) (next : IsNext ev (now e moment ev letters calls recovery i t) k) (w : Why)
       (unread : message_in k.body ≡ Err w) where
     -- it is no message
-    pub unread_plain : PlainAt e moment ev letters calls i t
+    pub unread_plain : PlainAt e moment ev letters calls recovery i t
     unread_plain = record {
       letter = k;
       next = next;
       why = λ m reads. let both : Err w ≡ Ok m = sym unread ∙ reads in absurd cc;
-      spare = λ live. spare_first e moment ev letters calls i t f;
+      spare = λ live. spare_first e moment ev letters calls recovery i t f;
     }
 
     passed_over : (v : Why) → (v ≡ why.Queue → ⊥) → Good (ignores v t)
-    passed_over v other = unsent e moment ev letters calls i _ (ignores_ok e moment ev letters calls i v (λ q. absurd (other q)) t unread_plain f.fresh.good)
+    passed_over v other = unsent e moment ev letters calls recovery i _ (ignores_ok e moment ev letters calls recovery i v (λ q. absurd (other q)) t unread_plain f.fresh.good)
 
     module _ (is_open : state_number t.control.state ≡ 3) (g : CallFault) (has : call_fault_in k.body ≡ Some g) where
       -- the fault, in the tunnel as it goes on
       faulty_in : (s : ℕ) (c : Call) (on : CallEvent) → on ≡ fault_event g.kind
-          → Ends e moment ev letters calls i (takes_plain t) s c on (fault_reason g.cause).result (fault_reason g.cause).error
+          → Ends e moment ev letters calls recovery i (takes_plain t) s c on (fault_reason g.cause).result (fault_reason g.cause).error
       unfolding takes_plain with_move takes_one
       faulty_in s c on is =
           HasFault k.header.session g (record {
@@ -81,11 +80,12 @@ module _ (e : End) (moment : ℕ) (ev : Event) (letters : List Letter) (calls : 
       fault_came : CameFaulty e ev g.cause
       fault_came = record {
         id = i;
-        tunnel = begun e moment ev letters calls i t f.fresh;
+        tunnel = begun e moment ev letters calls recovery i t f.fresh;
         there = f.fresh.there;
+        current = f.fresh.good.current;
         open_is = ap state_number f.fresh.state ∙ is_open;
         letter = k;
-        next = next_first e moment ev letters calls i t f.fresh k next;
+        next = next_first e moment ev letters calls recovery i t f.fresh k next;
         kind = g.kind;
         is_of = of_call.kind;
         about = of_call.about;
@@ -98,16 +98,16 @@ module _ (e : End) (moment : ℕ) (ev : Event) (letters : List Letter) (calls : 
 
       refuses_fault : (remote : ℕ) → remote ≡ unwrap_or g.session 0 → Good (refuses (fault_reason g.cause) remote t)
       refuses_fault remote is =
-          refuses_ok e moment ev letters calls i (fault_reason g.cause) stands remote t f is_open k next (λ m to result error. IsWrong g has (to ∙ is) result error)
+          refuses_ok e moment ev letters calls recovery i (fault_reason g.cause) stands remote t f is_open k next (λ m to result error. IsWrong g has (to ∙ is) result error)
 
       faulty_at_ok : (s remote : ℕ) (on : CallEvent) (none : CallAction) → on ≡ fault_event g.kind
           → (none ≡ call_action.SendCdn → Good (refuses (fault_reason g.cause) remote t)) → (o : Option Call) → at calls s ≡ o
           → Good (faulty_at e.role (fault_reason g.cause) s remote on none o t)
       unfolding faulty_at
       faulty_at_ok s remote on none is says None found =
-          none_ok e moment ev letters calls i (fault_reason g.cause) remote none t f unread_plain says
+          none_ok e moment ev letters calls recovery i (fault_reason g.cause) remote none t f unread_plain says
       faulty_at_ok s remote on none is says (Some c) found =
-          answers_ok e moment ev letters calls i (fault_reason g.cause) s c on t f found unread_plain (faulty_in s c on is) (λ told. stands)
+          answers_ok e moment ev letters calls recovery i (fault_reason g.cause) s c on t f found unread_plain (faulty_in s c on is) (λ told. stands)
 
       -- a WEN, an SLI, or a message that is about no call
       closed_ok : call_event.Close ≡ fault_event g.kind

@@ -13,8 +13,10 @@ use Rattle.end_model.specs.Tunnels.{Tunnel}
 use Rattle.end_model.specs.End.{End}
 use Rattle.step_laws.specs.Left.{AreFew, TunnelsBeginFew, TunnelsStayFew}
 use Rattle.step_laws.specs.Moves.{Does, Chain}
-use Rattle.step_laws.specs.Steps.{StepsAreChains}
+use Rattle.step_laws.specs.Steps.{StepsAreChains, IsOfNoStart}
 use Rattle.step_laws.proofs.Looks.{AreOrdered, does_order, kept_order}
+use Rattle.step_laws.proofs.Ups.{steps_are_no_starts}
+use Rattle.std.specs.List.{AllByRecursion}
 
 -- ---- how many entries a table then has
 
@@ -26,7 +28,7 @@ most_by e es k v later Less h = rw h (omega arith)
 most_by e es k v later Equal h = rw h (omega arith)
 most_by e es k v later Greater h = rw h (omega (arith, later))
 
-put_most : (es : List (ℕ × Tunnel)) (k : ℕ) (v : Tunnel) → length (put es k v) ≤ suc (length es)
+pub put_most : (es : List (ℕ × Tunnel)) (k : ℕ) (v : Tunnel) → length (put es k v) ≤ suc (length es)
 unfolding put
 put_most [] k v = omega arith
 put_most (e ∷ es) k v = most_by e es k v (put_most es k v) (nat_cmp k e.0) refl
@@ -38,7 +40,7 @@ less_by e es k later Less h = rw h (omega (arith, later))
 less_by e es k later Equal h = rw h (omega arith)
 less_by e es k later Greater h = rw h (omega (arith, later))
 
-without_most : (es : List (ℕ × Tunnel)) (k : ℕ) → length (without es k) ≤ length es
+pub without_most : (es : List (ℕ × Tunnel)) (k : ℕ) → length (without es k) ≤ length es
 unfolding without
 without_most [] k = omega arith
 without_most (e ∷ es) k = less_by e es k (without_most es k) (nat_cmp k e.0) refl
@@ -80,43 +82,51 @@ module _ (x y : End) (order : Ascends x.tunnels) (few : AreFew x) where
   abbrev tunnels_of : End → List (ℕ × Tunnel)
   tunnels_of e = e.tunnels
 
-  does_few : (moment : ℕ) (ev : Event) (m : Move) → Does x moment ev m y → AreFew y
-  does_few moment ev (move.Opened m) h = more_few m.tunnel _ h.few (ap tunnels_of h.after)
-  does_few moment ev (move.Accepted m) h = more_few m.tunnel _ h.few (ap tunnels_of h.after)
-  does_few moment ev (move.Connected m) h = same_few m.tunnel h.tunnel _ h.there (ap tunnels_of h.after)
-  does_few moment ev (move.Confirmed m) h = same_few m.tunnel h.tunnel _ h.there (ap tunnels_of h.after)
-  does_few moment ev (move.Added m) h = same_few m.tunnel h.tunnel _ h.there (ap tunnels_of h.after)
-  does_few moment ev (move.Requested m) h = same_few m.tunnel h.tunnel _ h.there (ap tunnels_of h.after)
-  does_few moment ev (move.Replied m) h = same_few m.tunnel h.tunnel _ h.there (ap tunnels_of h.after)
-  does_few moment ev (move.FirstUp m) h = same_few m.tunnel h.tunnel _ h.there (ap tunnels_of h.after)
-  does_few moment ev (move.SecondUp m) h = same_few m.tunnel h.tunnel _ h.there (ap tunnels_of h.after)
-  does_few moment ev (move.Refused m) h = same_few m.tunnel h.tunnel _ h.there (ap tunnels_of h.after)
-  does_few moment ev (move.EndTold m) h = same_few m.tunnel h.tunnel _ h.there (ap tunnels_of h.after)
-  does_few moment ev (move.EndHeard m) h = same_few m.tunnel h.tunnel _ h.there (ap tunnels_of h.after)
-  does_few moment ev (move.EndSilent m) h = same_few m.tunnel h.tunnel _ h.there (ap tunnels_of h.after)
-  does_few moment ev (move.Declined m) h = still_few h.after
-  does_few moment ev (move.Closed m) h = same_few m.tunnel h.tunnel _ h.there (ap tunnels_of h.after)
-  does_few moment ev (move.Rejected m) h = same_few m.tunnel h.tunnel _ h.there (ap tunnels_of h.after)
-  does_few moment ev (move.ClosedBy m) h = same_few m.tunnel h.tunnel _ h.there (ap tunnels_of h.after)
-  does_few moment ev (move.Cleared i booked) h = less_few i (ap tunnels_of h.after)
-  does_few moment ev (move.Greeted m) h = same_few m.tunnel h.tunnel _ h.there (ap tunnels_of h.after)
-  does_few moment ev (move.TookPlain m) h = same_few m.tunnel h.tunnel _ h.there (ap tunnels_of h.after)
-  does_few moment ev (move.NrRead m) h = same_few m.tunnel h.tunnel _ h.there (ap tunnels_of h.after)
-  does_few moment ev (move.LetGo m) h = same_few m.tunnel h.tunnel _ h.there (ap tunnels_of h.after)
-  does_few moment ev (move.Repeated m) h = same_few m.tunnel h.tunnel _ h.there (ap tunnels_of h.after)
-  does_few moment ev (move.Quiet i) h = still_few h.after
-  does_few moment ev (move.Negotiated m) h = same_few m.tunnel h.tunnel _ h.there (ap tunnels_of h.after)
-  does_few moment ev (move.Counted m) h = same_few m.tunnel h.tunnel _ h.there (ap tunnels_of h.after)
-  does_few moment ev (move.FrameSent m) h = still_few h.after
-  does_few moment ev (move.FrameUp m) h = still_few h.after
+  does_few : (moment : ℕ) (ev : Event) (m : Move) → IsOfNoStart m → Does x moment ev m y → AreFew y
+  does_few moment ev (move.Opened m) so h = more_few m.tunnel _ h.few (ap tunnels_of h.after)
+  does_few moment ev (move.Accepted m) so h = more_few m.tunnel _ h.few (ap tunnels_of h.after)
+  does_few moment ev (move.Connected m) so h = same_few m.tunnel h.tunnel _ h.there (ap tunnels_of h.after)
+  does_few moment ev (move.Confirmed m) so h = same_few m.tunnel h.tunnel _ h.there (ap tunnels_of h.after)
+  does_few moment ev (move.Added m) so h = same_few m.tunnel h.tunnel _ h.there (ap tunnels_of h.after)
+  does_few moment ev (move.Requested m) so h = same_few m.tunnel h.tunnel _ h.there (ap tunnels_of h.after)
+  does_few moment ev (move.Replied m) so h = same_few m.tunnel h.tunnel _ h.there (ap tunnels_of h.after)
+  does_few moment ev (move.FirstUp m) so h = same_few m.tunnel h.tunnel _ h.there (ap tunnels_of h.after)
+  does_few moment ev (move.SecondUp m) so h = same_few m.tunnel h.tunnel _ h.there (ap tunnels_of h.after)
+  does_few moment ev (move.Refused m) so h = same_few m.tunnel h.tunnel _ h.there (ap tunnels_of h.after)
+  does_few moment ev (move.EndTold m) so h = same_few m.tunnel h.tunnel _ h.there (ap tunnels_of h.after)
+  does_few moment ev (move.EndHeard m) so h = same_few m.tunnel h.tunnel _ h.there (ap tunnels_of h.after)
+  does_few moment ev (move.EndSilent m) so h = same_few m.tunnel h.tunnel _ h.there (ap tunnels_of h.after)
+  does_few moment ev (move.Declined m) so h = still_few h.after
+  does_few moment ev (move.Closed m) so h = same_few m.tunnel h.tunnel _ h.there (ap tunnels_of h.after)
+  does_few moment ev (move.Rejected m) so h = same_few m.tunnel h.tunnel _ h.there (ap tunnels_of h.after)
+  does_few moment ev (move.ClosedBy m) so h = same_few m.tunnel h.tunnel _ h.there (ap tunnels_of h.after)
+  does_few moment ev (move.Cleared i booked) so h = less_few i (ap tunnels_of h.after)
+  does_few moment ev (move.Greeted m) so h = same_few m.tunnel h.tunnel _ h.there (ap tunnels_of h.after)
+  does_few moment ev (move.TookPlain m) so h = same_few m.tunnel h.tunnel _ h.there (ap tunnels_of h.after)
+  does_few moment ev (move.NrRead m) so h = same_few m.tunnel h.tunnel _ h.there (ap tunnels_of h.after)
+  does_few moment ev (move.LetGo m) so h = same_few m.tunnel h.tunnel _ h.there (ap tunnels_of h.after)
+  does_few moment ev (move.Repeated m) so h = same_few m.tunnel h.tunnel _ h.there (ap tunnels_of h.after)
+  does_few moment ev (move.Quiet i) so h = still_few h.after
+  does_few moment ev (move.Negotiated m) so h = same_few m.tunnel h.tunnel _ h.there (ap tunnels_of h.after)
+  does_few moment ev (move.Counted m) so h = same_few m.tunnel h.tunnel _ h.there (ap tunnels_of h.after)
+  does_few moment ev (move.FrameSent m) so h = still_few h.after
+  does_few moment ev (move.FrameUp m) so h = still_few h.after
+  does_few moment ev (move.Restored m) so h = absurd so
+  does_few moment ev (move.Forgot m) so h = absurd so
+  does_few moment ev (move.Froze m) so h = same_few m.tunnel h.tunnel _ h.there (ap tunnels_of h.after)
+  does_few moment ev (move.ResetAttempting m) so h = same_few m.tunnel h.tunnel _ h.there (ap tunnels_of h.after)
+  does_few moment ev (move.ResetAnswering m) so h = same_few m.tunnel h.tunnel _ h.there (ap tunnels_of h.after)
+  does_few moment ev (move.RecoveryWentOn i) so h = same_few i h.tunnel _ h.there (ap tunnels_of h.after)
+  does_few moment ev (move.RecoveryEnded i) so h = same_few i h.tunnel _ h.there (ap tunnels_of h.after)
+  does_few moment ev (move.Ignored i) so h = same_few i h.tunnel _ h.there (ap tunnels_of h.after)
 
-chain_few : (moment : ℕ) (ev : Event) (x y : End) (ms : List Move) → Chain moment ev x ms y → AreOrdered x → AreFew x → AreFew y
-chain_few moment ev x y [] h order few = subst AreFew h few
-chain_few moment ev x y (m ∷ ms) h order few =
-    chain_few moment ev h.0 y ms h.2 (does_order x order moment ev m h.0 h.1) (does_few x h.0 order.tunnels few moment ev m h.1)
+chain_few : (moment : ℕ) (ev : Event) (x y : End) (ms : List Move) → AllByRecursion IsOfNoStart ms → Chain moment ev x ms y → AreOrdered x → AreFew x → AreFew y
+chain_few moment ev x y [] so h order few = subst AreFew h few
+chain_few moment ev x y (m ∷ ms) so h order few =
+    chain_few moment ev h.0 y ms so.1 h.2 (does_order x order moment ev m h.0 h.1) (does_few x h.0 order.tunnels few moment ev m so.0 h.1)
 
 pub tunnels_begin_few : TunnelsBeginFew
 tunnels_begin_few r c = omega arith
 
 pub tunnels_stay_few : StepsAreChains → TunnelsStayFew
-tunnels_stay_few chains e kept few moment block ev = chain_few moment ev e _ _ (chains e kept moment block ev).chain (kept_order e kept) few
+tunnels_stay_few chains e kept few moment block ev = chain_few moment ev e _ _ (steps_are_no_starts e moment block ev) (chains e kept moment block ev).chain (kept_order e kept) few

@@ -1,7 +1,7 @@
 -- A message that its tunnel may not take, for the letters that it holds and those that its calls owe, is dropped for that.
-use Rattle.std.proofs.Common.{◌≡◌, inl, ℕ, zero, suc, Bool, true, false, List, [], ◌∷◌, length, refl, sym, ap, ◌∙◌, subst, Option, Some, None, Ok}
+use Rattle.std.proofs.Common.{◌≡◌, inl, ℕ, zero, suc, Bool, false, List, length, refl, sym, ap, ◌∙◌, subst, Option, Some, None}
 use Rattle.std.proofs.lemmas.Bool.{true≢false, eqb-true, eqb-false}
-use Rattle.std.specs.Prelude.{◌==◌, ◌&&◌, ◌||◌, nat_le, unwrap_or, option_map}
+use Rattle.std.specs.Prelude.{◌==◌, ◌&&◌, ◌||◌, nat_le, unwrap_or, option_map, not, is_some}
 use Rattle.id_table.specs.Ids.{at}
 use Rattle.wire_base.specs.declared.why.Why.TheVariants as why
 use Rattle.wire_base.specs.declared.letter.Letter.{Letter}
@@ -17,7 +17,7 @@ use Rattle.end_model.specs.declared.out.Out.{Out}
 use Rattle.end_model.specs.declared.out.Out.TheVariants.{Drop}
 use Rattle.l2tp_header.specs.Reading.{body_of}
 use Rattle.end_model.specs.Reading.{at_tunnel}
-use Rattle.end_model.specs.Tunnels.{Env, Turn, Tunnel, turn_of}
+use Rattle.end_model.specs.Tunnels.{Env, Turn, Tunnel, turn_in, mode_of, is_current}
 use Rattle.end_model.specs.Turn.{with_output, with_move, drops}
 use Rattle.end_model.specs.Sending.{reads_nr, sends_letter, sends_now, lets_go, goes_by, lets_all_go, acknowledges, acknowledged_after, outstanding, settles}
 use Rattle.end_model.specs.Hearing.{hears_letter, in_tunnel, hears_control, hears_datagram}
@@ -27,7 +27,8 @@ use Rattle.end_model.specs.End.{End, Stepped, env_of, after_turn, in_main, addre
 use Rattle.step_laws.specs.Letters.{Among}
 use Rattle.step_laws.specs.Steps.{AreKept}
 use Rattle.step_laws.specs.Room.{IsFull, FullAreRefused}
-use Rattle.step_laws.proofs.Lists.{branch, among_left}
+use Rattle.step_laws.proofs.Lists.{branch, among_left, not_true}
+use Rattle.end_model.specs.Recovering.{recovering_turns}
 
 -- ---- what was given stays given as a turn settles
 
@@ -90,7 +91,7 @@ module _ (e : End) (kept : AreKept e) (moment : ℕ) (block : List ℕ) (ev : Ev
 
   -- the turn once Nr is read
   abbrev read_turn : Turn
-  read_turn = reads_nr nr (turn_of t.control env)
+  read_turn = reads_nr nr (turn_in t env)
 
   full : may_take (counts_acked nr moment t.control) t.calls ≡ false
   full = ap (λ n. may_take (counts_acked n moment t.control) t.calls) (sym nr_is) ∙ f.full
@@ -111,20 +112,22 @@ module _ (e : End) (kept : AreKept e) (moment : ℕ) (block : List ℕ) (ev : Ev
       (λ none. absurd (f.next.some (eqb-true (length body) 0 none)))
       (λ some. ap (λ c. Some c) f.next.next)
 
-  heard_dropped : Dropped (hears_control e.role e.config t.letters t.calls header body (turn_of t.control env))
+  heard_dropped : Dropped (hears_control e.role e.config t.letters t.calls header body (turn_in t env))
   unfolding hears_control in_tunnel
   heard_dropped =
       branch Dropped (state_number t.control.state == 0) _ _
       (λ idle. absurd ((kept.tunnels f.id t f.there).busy (eqb-true (state_number t.control.state) 0 idle)))
-      (λ some. subst (λ o. Dropped (in_tunnel e.role e.config t.letters t.calls header.session body o read_turn)) (sym class_is)
-      (settled_gave (Drop why.Queue) false t.letters (hears_letter e.role e.config t.calls header.session body (Some Next) read_turn) not_taken))
+      (λ some. branch Dropped (not (is_current (mode_of t.recovery))) _ _
+      (λ inactive. absurd (true≢false (sym f.current ∙ not_true _ inactive)))
+      (λ active. subst (λ o. Dropped (in_tunnel e.role e.config t.letters t.calls header.session body o read_turn)) (sym class_is)
+      (settled_gave (Drop why.Queue) false t.letters (hears_letter e.role e.config t.calls header.session body (Some Next) read_turn) not_taken)))
 
-  turn_dropped : Dropped (turns e.role e.config t.letters t.calls (Datagram t.control.peer bytes) (turn_of t.control env))
+  turn_dropped : Dropped (turns e.role e.config t.letters t.calls (Datagram t.control.peer bytes) (turn_in t env))
   unfolding turns hears_datagram
   turn_dropped =
-      subst (λ q. Dropped (hears_datagram e.role e.config t.letters t.calls bytes q (turn_of t.control env))) (sym f.next.comes.came.read)
+      subst (λ q. Dropped (hears_datagram e.role e.config t.letters t.calls bytes q (turn_in t env))) (sym f.next.comes.came.read)
       (branch Dropped header.control _ _
-      (λ c. subst (λ (b : List ℕ). Dropped (hears_control e.role e.config t.letters t.calls header b (turn_of t.control env))) body_is heard_dropped)
+      (λ c. subst (λ (b : List ℕ). Dropped (hears_control e.role e.config t.letters t.calls header b (turn_in t env))) body_is heard_dropped)
       (λ c. absurd (true≢false (sym f.next.comes.came.control ∙ c))))
 
   -- the message is for the tunnel
@@ -136,14 +139,16 @@ module _ (e : End) (kept : AreKept e) (moment : ℕ) (block : List ℕ) (ev : Ev
   for_tunnel =
       branch (λ a. a ≡ Main f.id) (header.tunnel == 0) _ _
       (λ none. absurd ((kept.tunnels f.id t f.there).some (sym named ∙ eqb-true header.tunnel 0 none)))
-      (λ some. ap (λ i. at_tunnel t.control.peer i (option_map (λ (u : Tunnel). u.control.peer) (at e.tunnels i))) named
+      (λ some. branch (λ a. a ≡ Main f.id) (is_some (at e.tunnels header.tunnel)) _ _
+      (λ is. ap (λ i. at_tunnel t.control.peer i (option_map (λ (u : Tunnel). u.control.peer) (at e.tunnels i))) named
       ∙ (ap (λ o. at_tunnel t.control.peer f.id (option_map (λ (u : Tunnel). u.control.peer) o)) f.there
       ∙ branch (λ a. a ≡ Main f.id) (t.control.peer == t.control.peer) _ _
       (λ same. refl)
       (λ other. absurd (eqb-false t.control.peer t.control.peer other refl))))
+      (λ none. absurd (true≢false (sym (ap (λ i. is_some (at e.tunnels i)) named ∙ ap (λ (o : Option Tunnel). is_some o) f.there) ∙ none))))
 
   main_dropped : DroppedIn (for_addressee e env (Datagram t.control.peer bytes) t.control.peer header body (addressed e t.control.peer header body))
-  unfolding for_addressee in_main after_turn
+  unfolding for_addressee in_main after_turn recovering_turns
   main_dropped =
       subst (λ a. DroppedIn (for_addressee e env (Datagram t.control.peer bytes) t.control.peer header body a)) (sym for_tunnel)
       (subst (λ o. DroppedIn (in_main e env (Datagram t.control.peer bytes) f.id o)) (sym f.there) turn_dropped)

@@ -1,12 +1,12 @@
 -- A step tells each call as gone once that had its place before it and has none after it, and no other.
-use Rattle.std.proofs.Common.{◌≡◌, ◌⊎◌, inl, inr, ⊎_elim, ℕ, true, List, [], ◌∷◌, ◌++◌, refl, sym, ap, ◌∙◌, subst, Option, Some, None, Result, Ok, Err}
+use Rattle.std.proofs.Common.{◌≡◌, ◌⊎◌, inl, inr, ⊎_elim, ℕ, true, List, [], ◌∷◌, ◌++◌, refl, sym, ap, ◌∙◌, subst, Option, Some, None, Result, Ok, Err, false}
 use Rattle.std.proofs.lemmas.Bool.{true≢false}
 use Rattle.std.proofs.lemmas.Grind.{flat_map-append}
 use Rattle.std.proofs.lemmas.Option.{none-some}
 use Rattle.std.specs.Prelude.{◌==◌, is_some}
 use Rattle.std.specs.List.{AllByRecursion, AllPairs, flat_map}
 use Rattle.id_table.specs.Ids.{at, put, without, at-none, ids_of}
-use Rattle.id_table.specs.Order.{Ascends, ascends-empty, at_new, at_other, same_or_not, at_without_same, at_without_other, ascends-without}
+use Rattle.id_table.specs.Order.{Ascends, ascends-empty, at_new, at_other, same_or_not, at_without_same, at_without_other, ascends-without, found_put, found_without}
 use Rattle.wire_base.specs.declared.why.Why.{Why}
 use Rattle.wire_base.specs.declared.why.Why.TheVariants as why
 use Rattle.wire_base.specs.declared.cause.Cause.{Cause as CauseOf}
@@ -27,26 +27,35 @@ use Rattle.session_looks.specs.declared.look.Look.{Look}
 use Rattle.session_looks.specs.declared.look.Look.TheVariants as look
 use Rattle.session_looks.specs.Frames.{header_why, frame_of, Carried, Upward, Dropped, carry_look}
 use Rattle.end_model.specs.declared.event.Addressee.{Addressee}
-use Rattle.end_model.specs.declared.event.Addressee.TheVariants.{Opens, Stops, Answers, Main, Nobody}
+use Rattle.end_model.specs.declared.event.Addressee.TheVariants.{Opens, Stops, Answers, Main, Nobody, Recovery, Recovers}
 use Rattle.end_model.specs.declared.event.Event.{Event}
 use Rattle.end_model.specs.declared.event.Event.TheVariants.{Datagram, Ring, Payload, Lower, Lcp, Hang, OpenTunnel, DropCall, CloseTunnel, Tick, Admitted, Frame}
 use Rattle.end_model.specs.declared.out.Out.{Out}
 use Rattle.end_model.specs.declared.out.Out.TheVariants.{Drop, Cause}
+use Rattle.end_model.specs.Reading.{message_in}
 use Rattle.end_model.specs.Calls.{is_lac}
-use Rattle.end_model.specs.Tunnels.{Tunnel, Env, Turn, turn_of}
+use Rattle.end_model.specs.Tunnels.{Tunnel, Env, Turn, turn_of, turn_in, Recovering}
 use Rattle.end_model.specs.Reasons.{Reason, out_of_order}
 use Rattle.end_model.specs.Openings.{fresh}
-use Rattle.end_model.specs.Events.{turns}
-use Rattle.end_model.specs.End.{End, Stepped, env_of, gives_only, new_place, placed, established_look, looked, with_look, with_looks, after_turn, after_new, in_new, has_all_tunnels, in_one_more, in_main, addressed, against_body, next_of_peer, declined, opens_or_declines, for_addressee, least_in, rings_in, rings_at, for_call, look_in, then_heard, handed, hands_up, receives, Turned, tick_of, ticks_of, end_after_all, after_all, ticks_all, only_by, step_in, plain_step}
+use Rattle.end_model.specs.Events.{turns, with_calls, tunnel_after}
+use Rattle.end_model.specs.End.{End, Stepped, env_of, gives_only, new_place, placed, established_look, looked, with_look, with_looks, after_turn, after_new, in_new, has_all_tunnels, in_one_more, in_main, addressed, against_body, next_of_peer, declined, opens_or_declines, for_addressee, least_in, rings_in, rings_at, for_call, look_in, then_heard, handed, hands_up, receives, Turned, tick_of, ticks_of, end_after_all, after_all, ticks_all, only_by, step_in, plain_step, after_both, in_recovery, are_recovering}
 use Rattle.step_laws.specs.Gone.{gone_of_output, gone_in, GoesOnce, CallsGoOnce}
 use Rattle.step_laws.specs.Letters.{Among}
-use Rattle.step_laws.specs.Looks.{look_of, LooksAreTrue}
+use Rattle.step_laws.specs.Looks.{look_of, LooksAreTrue, IsLive}
 use Rattle.step_laws.specs.Steps.{AreKept}
 use Rattle.step_laws.proofs.Lists.{all_append, branch, among_left, among_right, ascends_placed, ascends_look, ascends_looks}
 use Rattle.step_laws.proofs.Distinct.{AreDistinct, among_either, distinct_append, distinct_ids, distinct_pairs}
 use Rattle.step_laws.proofs.Untold.{killed_by, tells_none}
 use Rattle.step_laws.proofs.Parting.{Parts, turns_parts}
-use Rattle.step_laws.proofs.Unborn.{tick_makes}
+use Rattle.step_laws.proofs.Unborn.{tick_makes, recovery_makes}
+use Rattle.control_message.specs.declared.message.Opening.{Opening}
+use Rattle.end_model.specs.Recovering.{is_tick, recovering_turns, hears_recovery, froze}
+use Rattle.step_laws.proofs.Ticks.{tick_whole}
+use Rattle.step_laws.proofs.Turns.{at_turn, there as there_at}
+use Rattle.step_laws.proofs.Looks.{chain_looks, kept_order}
+use Rattle.step_laws.proofs.Ups.{ticks_no_start}
+use Rattle.step_laws.proofs.Attempting.{recovers_so}
+use Rattle.step_laws.proofs.LineParts.{IsApart, recovery_ticks_parts, line_parts, froze_parts}
 
 abbrev IsThere : {X : Type 0} → List (ℕ × X) → ℕ → Type 0
 IsThere es q = is_some (at es q) ≡ true
@@ -104,6 +113,38 @@ unfolding with_looks
 looks_none [] places q order none = none
 looks_none (c ∷ cs) places q order none = looks_none cs (with_look c places) q (ascends_look c places order) (look_none c places q order none)
 
+-- a place that is there after looks changed was there, in the same tunnel
+abbrev WasPlaced : List (ℕ × CallPlace) → ℕ → CallPlace → Type 0
+WasPlaced places q z = (p : CallPlace) × ((at places q ≡ Some p) × (p.tunnel ≡ z.tunnel))
+
+looked_tunnel : (l : Look) (s : ℕ) (o : Option CallPlace) (places : List (ℕ × CallPlace)) (q : ℕ) (z : CallPlace) → at places s ≡ o
+    → at (looked l s o places) q ≡ Some z → WasPlaced places q z
+looked_tunnel l s None places q z is there = (z, (there, refl))
+looked_tunnel l s (Some p) places q z is there = ⊎_elim
+    (λ (a : (q ≡ s) × (record p { look = l } ≡ z)). (p, (ap (at places) a.0 ∙ is, ap (λ (x : CallPlace). x.tunnel) a.1)))
+    (λ (a : (q ≡ s → ⊥) × (at places q ≡ Some z)). (z, (a.1, refl)))
+    (found_put places s (record p { look = l }) q z there)
+
+look_tunnel : (c : CellChange) (places : List (ℕ × CallPlace)) (q : ℕ) (z : CallPlace) → Ascends places → at (with_look c places) q ≡ Some z
+    → WasPlaced places q z
+unfolding with_look
+look_tunnel (cell.Bind s tunnel peer) places q z order there = looked_tunnel (look.Bound tunnel peer) s (at places s) places q z refl there
+look_tunnel (cell.Establish s) places q z order there = looked_tunnel (established_look (at places s)) s (at places s) places q z refl there
+look_tunnel (cell.Kill s) places q z order there = (z, ((found_without places s q z order there).1, refl))
+
+pub looks_tunnel : (cs : List CellChange) (places : List (ℕ × CallPlace)) (q : ℕ) (z : CallPlace) → Ascends places → at (with_looks cs places) q ≡ Some z
+    → WasPlaced places q z
+unfolding with_looks
+looks_tunnel [] places q z order there = (z, (there, refl))
+looks_tunnel (c ∷ cs) places q z order there =
+    let later = looks_tunnel cs (with_look c places) q z (ascends_look c places order) there in
+    let first = look_tunnel c places q later.0 order later.1.0 in
+    (first.0, (first.1.0, first.1.1 ∙ later.1.1))
+
+pub not_left : {X : Type 0} (o : Option X) → ((x : X) → o ≡ Some x → ⊥) → o ≡ None
+not_left None h = refl
+not_left (Some x) h = absurd (h x refl)
+
 -- the place of a call whose look is dead isn't there
 killed_gone : (cs : List CellChange) (places : List (ℕ × CallPlace)) (q : ℕ) → Ascends places → Among q (flat_map killed_by cs)
     → at (with_looks cs places) q ≡ None
@@ -133,7 +174,7 @@ gone_killed (cell.Kill s ∷ cs) places q there none = ⊎_elim
 
 -- ---- what one turn does
 
-module _ (e : End) (i : ℕ) (letters : List Letter) (calls : List (ℕ × Call)) (t : Turn) (p : Parts calls t) where
+module _ (e : End) (i : ℕ) (letters : List Letter) (calls : List (ℕ × Call)) (recovery : Option Recovering) (t : Turn) (p : Parts calls t) where
   -- the places that it leaves
   abbrev places_after : List (ℕ × CallPlace)
   places_after = with_looks t.changes (placed t.control.local t.added e.calls)
@@ -154,7 +195,7 @@ module _ (e : End) (i : ℕ) (letters : List Letter) (calls : List (ℕ × Call)
   turn_once : AreDistinct (gone_in t.outputs)
   turn_once = subst AreDistinct (sym p.tells.gone) p.once
 
-  turn_goes : Ascends e.calls → ((q : ℕ) → IsThere calls q → IsThere e.calls q) → GoesOnce e (after_turn e i letters calls t)
+  turn_goes : Ascends e.calls → ((q : ℕ) → IsThere calls q → IsThere e.calls q) → GoesOnce e (after_turn e i letters calls recovery t)
   unfolding after_turn
   turn_goes order seen = record {
     once = distinct_pairs (gone_in t.outputs) turn_once;
@@ -196,14 +237,32 @@ module _ (e : End) (kept : AreKept e) (looks : LooksAreTrue e) (moment : ℕ) (b
   have_places : (i : ℕ) (t : Tunnel) → at e.tunnels i ≡ Some t → (q : ℕ) → IsThere t.calls q → IsThere e.calls q
   have_places i t is q there = let c = found (at t.calls q) there in has_place i t is q c.0 c.1
 
-  parts_of : (ev : Event) (i : ℕ) (t : Tunnel) → at e.tunnels i ≡ Some t → Parts t.calls (turns e.role e.config t.letters t.calls ev (turn_of t.control env))
-  parts_of ev i t is = turns_parts t.calls (kept.tunnels i t is).calls e.role e.config t.letters ev (turn_of t.control env) tells_none
+  parts_of : (ev : Event) (i : ℕ) (t : Tunnel) → at e.tunnels i ≡ Some t → Parts t.calls (turns e.role e.config t.letters t.calls ev (turn_in t env))
+  parts_of ev i t is = turns_parts t.calls (kept.tunnels i t is).calls e.role e.config t.letters ev (turn_in t env) tells_none
 
-  main_goes : (ev : Event) (i : ℕ) (o : Option Tunnel) → at e.tunnels i ≡ o → Goes (in_main e env ev i o)
-  unfolding in_main
-  main_goes ev i None is = dropped_goes why.Tunnel
-  main_goes ev i (Some t) is =
-      turn_goes e i t.letters t.calls (turns e.role e.config t.letters t.calls ev (turn_of t.control env)) (parts_of ev i t is) kept.places (have_places i t is)
+  main_goes : (ev : Event) → is_tick ev ≡ false → (i : ℕ) (o : Option Tunnel) → at e.tunnels i ≡ o → Goes (in_main e env ev i o)
+  unfolding in_main recovering_turns
+  main_goes ev no_tick i None is = dropped_goes why.Tunnel
+  main_goes ev no_tick i (Some t) is =
+      rw no_tick
+      (turn_goes e i t.letters t.calls t.recovery (turns e.role e.config t.letters t.calls ev (turn_in t env)) (parts_of ev i t is) kept.places (have_places i t is))
+
+  -- a recovery tunnel, or a tunnel that is frozen
+  line_goes : (h : Header) (body : List ℕ) (i : ℕ) (o : Option Tunnel) → at e.tunnels i ≡ o → Goes (in_recovery e env h body i o)
+  unfolding in_recovery
+  line_goes h body i None is = dropped_goes why.Tunnel
+  line_goes h body i (Some t) is =
+      let x = hears_recovery e.config t.letters t.calls h body t.recovery (turn_in t env) in
+      turn_goes e i t.letters t.calls x.recovery x.turn
+      (line_parts t.calls (kept.tunnels i t is).calls e.config t.letters h body t.recovery (turn_in t env) tells_none) kept.places (have_places i t is)
+
+  frozen_goes : (t : Tunnel) (o : Opening) (local draw : ℕ) → at e.tunnels t.control.local ≡ Some t
+      → Goes (after_both e t.control.local t (froze e.role e.config t.calls o local draw (turn_in t env)))
+  frozen_goes t o local draw is =
+      let x = froze e.role e.config t.calls o local draw (turn_in t env) in
+      let i = t.control.local in
+      turn_goes e i t.letters t.calls x.recovery x.turn
+      (froze_parts t.calls (kept.tunnels i t is).calls e.role e.config o local draw (turn_in t env) tells_none) kept.places (have_places i t is)
 
   -- a tunnel that is new has no calls
   no_calls : (q : ℕ) → IsThere {X = Call} [] q → ⊥
@@ -216,12 +275,12 @@ module _ (e : End) (kept : AreKept e) (looks : LooksAreTrue e) (moment : ℕ) (b
       let p : Parts [] t = turns_parts [] (ascends-empty [] refl) e.role e.config [] ev (turn_of (fresh peer moment) env) tells_none in
       branch Goes (t.control.local == 0) _ _
       (λ zero. record {
-        once = distinct_pairs (gone_in t.outputs) (turn_once e 0 [] [] t p);
-        had = λ q a. absurd (no_calls q (turn_had e 0 [] [] t p q a));
-        left = λ q a. absurd (no_calls q (turn_had e 0 [] [] t p q a));
+        once = distinct_pairs (gone_in t.outputs) (turn_once e 0 [] [] None t p);
+        had = λ q a. absurd (no_calls q (turn_had e 0 [] [] None t p q a));
+        left = λ q a. absurd (no_calls q (turn_had e 0 [] [] None t p q a));
         told = λ q there gone. absurd (none_there e.calls q gone there);
       })
-      (λ some. turn_goes e t.control.local [] [] t p kept.places (λ q there. absurd (no_calls q there)))
+      (λ some. turn_goes e t.control.local [] [] None t p kept.places (λ q there. absurd (no_calls q there)))
 
   more_goes : (ev : Event) (peer : ℕ) (o : Out) → Goes (gives_only e o) → Goes (in_one_more e env ev peer o)
   unfolding in_one_more
@@ -238,19 +297,22 @@ module _ (e : End) (kept : AreKept e) (looks : LooksAreTrue e) (moment : ℕ) (b
   opens_goes ev peer remote nr None = new_goes ev peer
   opens_goes ev peer remote nr (Some r) = declined_goes peer remote nr r
 
-  addressee_goes : (ev : Event) (peer : ℕ) (h : Header) (body : List ℕ) (a : Addressee) → Goes (for_addressee e env ev peer h body a)
+  addressee_goes : (ev : Event) → is_tick ev ≡ false → (peer : ℕ) (h : Header) (body : List ℕ) (a : Addressee) → Goes (for_addressee e env ev peer h body a)
   unfolding for_addressee
-  addressee_goes ev peer h body (Opens remote) = opens_goes ev peer remote (next_of_peer h) (against_body e body)
-  addressee_goes ev peer h body (Stops remote) = dropped_goes why.Tunnel
-  addressee_goes ev peer h body (Answers remote) = declined_goes peer remote (next_of_peer h) out_of_order
-  addressee_goes ev peer h body (Main i) = main_goes ev i (at e.tunnels i) refl
-  addressee_goes ev peer h body (Nobody w) = dropped_goes w
+  addressee_goes ev no_tick peer h body (Opens remote) = opens_goes ev peer remote (next_of_peer h) (against_body e body)
+  addressee_goes ev no_tick peer h body (Stops remote) = dropped_goes why.Tunnel
+  addressee_goes ev no_tick peer h body (Answers remote) = declined_goes peer remote (next_of_peer h) out_of_order
+  addressee_goes ev no_tick peer h body (Main i) = main_goes ev no_tick i (at e.tunnels i) refl
+  addressee_goes ev no_tick peer h body (Recovery i) = line_goes h body i (at e.tunnels i) refl
+  addressee_goes ev no_tick peer h body (Recovers remote) =
+      recovers_so e kept env Goes declined_goes (λ w. dropped_goes w) frozen_goes peer (next_of_peer h) (message_in body)
+  addressee_goes ev no_tick peer h body (Nobody w) = dropped_goes w
 
   then_goes : (tunnel session : ℕ) (frame : List ℕ) (x : Side) → Goes (then_heard e env tunnel session frame x)
   unfolding then_heard
   then_goes tunnel session frame side.Sub = same_goes _ refl refl
   then_goes tunnel session frame side.Net = same_goes _ refl refl
-  then_goes tunnel session frame side.Lcp = main_goes (Lcp session frame) tunnel (at e.tunnels tunnel) refl
+  then_goes tunnel session frame side.Lcp = main_goes (Lcp session frame) refl tunnel (at e.tunnels tunnel) refl
 
   handed_goes : (session : ℕ) (c : Carried) → Goes (handed e env session c)
   unfolding handed
@@ -264,39 +326,92 @@ module _ (e : End) (kept : AreKept e) (looks : LooksAreTrue e) (moment : ℕ) (b
   received_goes peer bytes (Err x) = dropped_goes (header_why x)
   received_goes peer bytes (Ok h) =
       branch Goes h.control _ _
-      (λ control. addressee_goes (Datagram peer bytes) peer h (body_of bytes h) (addressed e peer h (body_of bytes h)))
+      (λ control. addressee_goes (Datagram peer bytes) refl peer h (body_of bytes h) (addressed e peer h (body_of bytes h)))
       (λ data_is. handed_goes h.session (carry_look e.role (look_in (at e.calls h.session)) peer h (frame_of (body_of bytes h))))
 
   -- ---- rings and calls
 
-  rings_go : (ev : Event) (open_one opening : Option ℕ) → Goes (rings_in e env ev open_one opening)
+  rings_go : (ev : Event) → is_tick ev ≡ false → (open_one opening : Option ℕ) → Goes (rings_in e env ev open_one opening)
   unfolding rings_in
-  rings_go ev (Some i) opening = main_goes ev i (at e.tunnels i) refl
-  rings_go ev None (Some i) = main_goes ev i (at e.tunnels i) refl
-  rings_go ev None None = more_goes ev e.config.lns (Cause cause.Tunnels) (caused_goes cause.Tunnels)
+  rings_go ev no_tick (Some i) opening = main_goes ev no_tick i (at e.tunnels i) refl
+  rings_go ev no_tick None (Some i) = main_goes ev no_tick i (at e.tunnels i) refl
+  rings_go ev no_tick None None =
+      branch Goes (are_recovering e.config.lns e.tunnels) _ _
+      (λ some. caused_goes cause.Recovering)
+      (λ calm. more_goes ev e.config.lns (Cause cause.Tunnels) (caused_goes cause.Tunnels))
 
-  call_goes : (ev : Event) (o : Option CallPlace) → Goes (for_call e env ev o)
+  call_goes : (ev : Event) → is_tick ev ≡ false → (o : Option CallPlace) → Goes (for_call e env ev o)
   unfolding for_call
-  call_goes ev None = dropped_goes why.Call
-  call_goes ev (Some p) = main_goes ev p.tunnel (at e.tunnels p.tunnel) refl
+  call_goes ev no_tick None = dropped_goes why.Call
+  call_goes ev no_tick (Some p) = main_goes ev no_tick p.tunnel (at e.tunnels p.tunnel) refl
 
   -- ---- time: each tunnel by itself, and the calls of two are others
 
+  -- a live call of the tunnel with this id is one of its calls
+  own_call : (i : ℕ) (t : Tunnel) → at e.tunnels i ≡ Some t → (q : ℕ) {j : ℕ} (l : IsLive e j q) → j ≡ i → is_some (at t.calls q) ≡ true
+  own_call i t is q {j} l same =
+      let both : Some l.tunnel ≡ Some t = sym l.there ∙ ap (at e.tunnels) same ∙ is in
+      let tunnel : l.tunnel ≡ t = cc in
+      there_is t.calls q l.call (subst (λ (u : Tunnel). at u.calls q ≡ Some l.call) tunnel l.live)
+
   record IsTicked (t : Turned) : Type 0 where
     there : at e.tunnels t.id ≡ Some t.tunnel
-    parts : Parts t.tunnel.calls t.turn
-    none_made : t.turn.added ≡ []
+    parts : Parts t.tunnel.calls t.turn.turn
+    none_made : t.turn.turn.added ≡ []
+
+  -- calls that are left by a turn as time passes, and those that it told
+  main_apart : (i : ℕ) (t : Tunnel) → at e.tunnels i ≡ Some t → (p : Parts t.calls (turns e.role e.config t.letters t.calls Tick (turn_in t env)))
+      → (turns e.role e.config t.letters t.calls Tick (turn_in t env)).cleared ≡ false
+      → IsApart t.calls (with_calls (turns e.role e.config t.letters t.calls Tick (turn_in t env)).changed t.calls) p.gone
+  unfolding placed
+  main_apart i t is p stays =
+      let u = turns e.role e.config t.letters t.calls Tick (turn_in t env) in
+      let w = tick_whole e kept moment block i t is stays in
+      let y = at_turn e moment Tick t.letters t.calls t.recovery i u in
+      let seen : LooksAreTrue y = chain_looks moment Tick e y u.moves (ticks_no_start e moment block t) w.chain (kept_order e kept) looks in
+      let here : at y.tunnels u.control.local ≡ Some (tunnel_after u t.letters t.calls t.recovery) = there_at e moment Tick t.letters t.calls t.recovery i u in
+      let left = with_calls u.changed t.calls in
+      let placed_so : (q : ℕ) (c : Call) → at left q ≡ Some c → (z : CallPlace) × ((at y.calls q ≡ Some z) × (z.tunnel ≡ i)) =
+      λ q c live. (
+        record { tunnel = u.control.local; look = look_of c u.control.local u.control.peer },
+        (seen.seen u.control.local (tunnel_after u t.letters t.calls t.recovery) here q c live, w.stays.0),
+      ) in
+      let made : u.added ≡ [] = tick_makes [] e.role e.config t.letters t.calls (turn_in t env) refl in
+      record {
+        order = w.fits.0;
+        apart = λ q a. not_left (at left q) (λ c live.
+            let z = placed_so q c live in
+            none-some z.0 (sym (turn_left e i t.letters t.calls t.recovery u p q kept.places (subst (λ xs. Among q xs) (sym p.tells.gone) a)) ∙ z.1.0));
+        of = λ q there.
+            let c = found (at left q) there in
+            let z = placed_so q c.0 c.1 in
+            let b = looks_tunnel u.changes e.calls q z.0 kept.places (subst (λ ss. at (with_looks u.changes (placed u.control.local ss e.calls)) q ≡ Some z.0) made z.1.0) in
+            let l = looks.live q b.0 b.1.0 in
+            own_call i t is q l (b.1.1 ∙ z.1.1);
+      }
+
+  tick_parts : (i : ℕ) (t : Tunnel) → at e.tunnels i ≡ Some t → Parts t.calls (recovering_turns e.role e.config t Tick (turn_in t env)).turn
+  unfolding recovering_turns
+  tick_parts i t is =
+      let p = parts_of Tick i t is in
+      recovery_ticks_parts t.calls t.recovery (turns e.role e.config t.letters t.calls Tick (turn_in t env)) p (main_apart i t is p)
+
+  both_make : (i : ℕ) (t : Tunnel) → (recovering_turns e.role e.config t Tick (turn_in t env)).turn.added ≡ []
+  unfolding recovering_turns
+  both_make i t =
+      recovery_makes [] t.calls t.recovery (turns e.role e.config t.letters t.calls Tick (turn_in t env))
+      (tick_makes [] e.role e.config t.letters t.calls (turn_in t env) refl)
 
   abbrev outputs_of : List Turned → List Out
-  outputs_of ts = flat_map (λ (t : Turned). t.turn.outputs) ts
+  outputs_of ts = flat_map (λ (t : Turned). t.turn.turn.outputs) ts
 
   tick_is : (i : ℕ) (o : Option Tunnel) → at e.tunnels i ≡ o → AllByRecursion IsTicked (tick_of e env i o)
   tick_is i None is = tt
   tick_is i (Some t) is = (
     record {
       there = is;
-      parts = parts_of Tick i t is;
-      none_made = tick_makes [] e.role e.config t.letters t.calls (turn_of t.control env) refl;
+      parts = tick_parts i t is;
+      none_made = both_make i t;
     },
     tt,
   )
@@ -308,31 +423,31 @@ module _ (e : End) (kept : AreKept e) (looks : LooksAreTrue e) (moment : ℕ) (b
 
   -- the end after one of them
   abbrev after_one : Turned → End → End
-  after_one t x = (after_turn x t.id t.tunnel.letters t.tunnel.calls t.turn).end
+  after_one t x = (after_both x t.id t.tunnel t.turn).end
 
   one_ordered : (t : Turned) (x : End) → Ascends x.calls → Ascends (after_one t x).calls
   unfolding after_turn
   one_ordered t x order =
-      ascends_looks t.turn.changes (placed t.turn.control.local t.turn.added x.calls) (ascends_placed t.turn.control.local t.turn.added x.calls order)
+      ascends_looks t.turn.turn.changes (placed t.turn.turn.control.local t.turn.turn.added x.calls) (ascends_placed t.turn.turn.control.local t.turn.turn.added x.calls order)
 
-  one_left : (t : Turned) (x : End) (q : ℕ) → IsTicked t → Ascends x.calls → Among q (gone_in t.turn.outputs) → at (after_one t x).calls q ≡ None
+  one_left : (t : Turned) (x : End) (q : ℕ) → IsTicked t → Ascends x.calls → Among q (gone_in t.turn.turn.outputs) → at (after_one t x).calls q ≡ None
   unfolding after_turn
-  one_left t x q h order a = turn_left x t.id t.tunnel.letters t.tunnel.calls t.turn h.parts q order a
+  one_left t x q h order a = turn_left x t.id t.tunnel.letters t.tunnel.calls t.turn.recovery t.turn.turn h.parts q order a
 
-  one_told : (t : Turned) (x : End) (q : ℕ) → IsTicked t → IsThere x.calls q → at (after_one t x).calls q ≡ None → Among q (gone_in t.turn.outputs)
+  one_told : (t : Turned) (x : End) (q : ℕ) → IsTicked t → IsThere x.calls q → at (after_one t x).calls q ≡ None → Among q (gone_in t.turn.turn.outputs)
   unfolding after_turn
-  one_told t x q h there none = turn_told x t.id t.tunnel.letters t.tunnel.calls t.turn h.parts q there none
+  one_told t x q h there none = turn_told x t.id t.tunnel.letters t.tunnel.calls t.turn.recovery t.turn.turn h.parts q there none
 
   one_none : (t : Turned) (x : End) (q : ℕ) → IsTicked t → Ascends x.calls → at x.calls q ≡ None → at (after_one t x).calls q ≡ None
   unfolding after_turn placed
   one_none t x q h order none =
-      looks_none t.turn.changes (placed t.turn.control.local t.turn.added x.calls) q
-      (ascends_placed t.turn.control.local t.turn.added x.calls order)
-      (subst (λ ss. at (placed t.turn.control.local ss x.calls) q ≡ None) (sym h.none_made) none)
+      looks_none t.turn.turn.changes (placed t.turn.turn.control.local t.turn.turn.added x.calls) q
+      (ascends_placed t.turn.turn.control.local t.turn.turn.added x.calls order)
+      (subst (λ ss. at (placed t.turn.turn.control.local ss x.calls) q ≡ None) (sym h.none_made) none)
 
   -- what the first tells, and what the others tell
-  gone_first : (t : Turned) (ts : List Turned) → gone_in (outputs_of (t ∷ ts)) ≡ gone_in t.turn.outputs ++ gone_in (outputs_of ts)
-  gone_first t ts = flat_map-append gone_of_output t.turn.outputs (outputs_of ts)
+  gone_first : (t : Turned) (ts : List Turned) → gone_in (outputs_of (t ∷ ts)) ≡ gone_in t.turn.turn.outputs ++ gone_in (outputs_of ts)
+  gone_first t ts = flat_map-append gone_of_output t.turn.turn.outputs (outputs_of ts)
 
   all_none : (ts : List Turned) (x : End) (q : ℕ) → AllByRecursion IsTicked ts → Ascends x.calls → at x.calls q ≡ None → at (end_after_all ts x).calls q ≡ None
   unfolding end_after_all
@@ -346,7 +461,7 @@ module _ (e : End) (kept : AreKept e) (looks : LooksAreTrue e) (moment : ℕ) (b
   all_left (t ∷ ts) x q h order a = ⊎_elim
       (λ l. all_none ts (after_one t x) q h.1 (one_ordered t x order) (one_left t x q h.0 order l))
       (λ r. all_left ts (after_one t x) q h.1 (one_ordered t x order) r)
-      (among_either q (gone_in t.turn.outputs) (gone_in (outputs_of ts)) (subst (λ xs. Among q xs) (gone_first t ts) a))
+      (among_either q (gone_in t.turn.turn.outputs) (gone_in (outputs_of ts)) (subst (λ xs. Among q xs) (gone_first t ts) a))
 
   all_told : (ts : List Turned) (x : End) (q : ℕ) → AllByRecursion IsTicked ts → IsThere x.calls q → at (end_after_all ts x).calls q ≡ None
       → Among q (gone_in (outputs_of ts))
@@ -354,8 +469,8 @@ module _ (e : End) (kept : AreKept e) (looks : LooksAreTrue e) (moment : ℕ) (b
   all_told [] x q h there none = absurd (none_there x.calls q none there)
   all_told (t ∷ ts) x q h there none =
       subst (λ xs. Among q xs) (sym (gone_first t ts)) (⊎_elim
-      (λ gone. among_left q (gone_in t.turn.outputs) (gone_in (outputs_of ts)) (one_told t x q h.0 there gone))
-      (λ still. among_right q (gone_in t.turn.outputs) (gone_in (outputs_of ts)) (all_told ts (after_one t x) q h.1 still none))
+      (λ gone. among_left q (gone_in t.turn.turn.outputs) (gone_in (outputs_of ts)) (one_told t x q h.0 there gone))
+      (λ still. among_right q (gone_in t.turn.turn.outputs) (gone_in (outputs_of ts)) (all_told ts (after_one t x) q h.1 still none))
       (none_or_some (at (after_one t x).calls q)))
 
   -- a call of one of these tunnels
@@ -388,13 +503,13 @@ module _ (e : End) (kept : AreKept e) (looks : LooksAreTrue e) (moment : ℕ) (b
     of = λ q a. let l = h.of q a in record { id = l.id; among = inr l.among; tunnel = l.tunnel; there = l.there; live = l.live };
   }
   tick_tells i is (Some t) at_is ts one h =
-      let u : Turned = record { id = i; tunnel = t; turn = turns e.role e.config t.letters t.calls Tick (turn_of t.control env) } in
-      let p = parts_of Tick i t at_is in
-      let first = gone_in u.turn.outputs in
+      let u : Turned = record { id = i; tunnel = t; turn = recovering_turns e.role e.config t Tick (turn_in t env) } in
+      let p = tick_parts i t at_is in
+      let first = gone_in u.turn.turn.outputs in
       let others = gone_in (outputs_of ts) in
-      let own : (q : ℕ) → Among q first → IsThere t.calls q = turn_had e i t.letters t.calls u.turn p in
+      let own : (q : ℕ) → Among q first → IsThere t.calls q = turn_had e i t.letters t.calls u.turn.recovery u.turn.turn p in
       record {
-        once = subst AreDistinct (sym (gone_first u ts)) (distinct_append first others (turn_once e i t.letters t.calls u.turn p) h.once
+        once = subst AreDistinct (sym (gone_first u ts)) (distinct_append first others (turn_once e i t.letters t.calls u.turn.recovery u.turn.turn p) h.once
             (λ q l r. let k = h.of q r in one.0 (subst (λ j. Among j is) (one_tunnel k.id i k.tunnel t k.there at_is q k.live (own q l)) k.among)));
         of = λ q a. ⊎_elim
             (λ l. record { id = i; among = inl refl; tunnel = t; there = at_is; live = own q l })
@@ -432,16 +547,16 @@ module _ (e : End) (kept : AreKept e) (looks : LooksAreTrue e) (moment : ℕ) (b
   unfolding plain_step step_in rings_at
   step_goes (Datagram peer bytes) = received_goes peer bytes (header_of bytes)
   step_goes (Ring port) =
-      by_lac _ (rings_go (Ring port) (least_in Established e.config.lns e.tunnels) (least_in WaitCtlReply e.config.lns e.tunnels))
+      by_lac _ (rings_go (Ring port) refl (least_in Established e.config.lns e.tunnels) (least_in WaitCtlReply e.config.lns e.tunnels))
   step_goes (Admitted mac) =
-      by_lac _ (rings_go (Admitted mac) (least_in Established e.config.lns e.tunnels) (least_in WaitCtlReply e.config.lns e.tunnels))
+      by_lac _ (rings_go (Admitted mac) refl (least_in Established e.config.lns e.tunnels) (least_in WaitCtlReply e.config.lns e.tunnels))
   step_goes (Frame bytes) = dropped_goes why.Node
-  step_goes (Payload s frame) = by_lac _ (call_goes (Payload s frame) (at e.calls s))
-  step_goes (Lower s frame) = by_lns _ (call_goes (Lower s frame) (at e.calls s))
-  step_goes (Lcp s packet) = by_lns _ (call_goes (Lcp s packet) (at e.calls s))
-  step_goes (Hang s) = by_lac _ (call_goes (Hang s) (at e.calls s))
-  step_goes (DropCall s) = call_goes (DropCall s) (at e.calls s)
-  step_goes (CloseTunnel i) = main_goes (CloseTunnel i) i (at e.tunnels i) refl
+  step_goes (Payload s frame) = by_lac _ (call_goes (Payload s frame) refl (at e.calls s))
+  step_goes (Lower s frame) = by_lns _ (call_goes (Lower s frame) refl (at e.calls s))
+  step_goes (Lcp s packet) = by_lns _ (call_goes (Lcp s packet) refl (at e.calls s))
+  step_goes (Hang s) = by_lac _ (call_goes (Hang s) refl (at e.calls s))
+  step_goes (DropCall s) = call_goes (DropCall s) refl (at e.calls s)
+  step_goes (CloseTunnel i) = main_goes (CloseTunnel i) refl i (at e.tunnels i) refl
   step_goes Tick = all_go
   step_goes OpenTunnel = by_lac _ (more_goes OpenTunnel e.config.lns (Cause cause.Tunnels) (caused_goes cause.Tunnels))
 

@@ -7,7 +7,6 @@ use Rattle.id_source.specs.Spaces.{takes_id}
 use Rattle.id_source.specs.declared.IdError.{IdError}
 use Rattle.wire_base.specs.declared.cause.Cause.TheVariants as cause
 use Rattle.call_fsm.specs.declared.table.CallEvent.TheVariants as call_event
-use Rattle.call_fsm.specs.declared.table.CallState.TheVariants as call
 use Rattle.end_model.specs.declared.event.Event.TheVariants.{Tick}
 use Rattle.end_names.specs.declared.role.Role.{Role}
 use Rattle.end_names.specs.declared.role.Role.TheVariants.{Lac, Lns}

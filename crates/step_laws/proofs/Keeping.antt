@@ -1,5 +1,5 @@
 -- What the end of each part of a turn leaves as it was.
-use Rattle.std.proofs.Common.{◌≡◌, arith, ℕ, ◌+◌, Bool, true, false, cond, zero, suc, List, refl, ◌∙◌, Option, Some, None}
+use Rattle.std.proofs.Common.{◌≡◌, arith, ℕ, ◌+◌, Bool, false, zero, suc, List, refl, ◌∙◌, Option, Some, None}
 use Rattle.std.proofs.lemmas.Bool.Decides.{nat_tests}
 use Rattle.std.specs.Prelude.{◌==◌, ◌&&◌, ◌||◌, nat_le, nat_lt, length}
 use Rattle.wire_base.specs.declared.letter.Letter.{Letter}

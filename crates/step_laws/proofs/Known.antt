@@ -11,13 +11,14 @@ use Rattle.end_model.specs.declared.event.Addressee.TheVariants.{Opens, Stops}
 use Rattle.end_model.specs.declared.event.Event.{Event}
 use Rattle.end_model.specs.declared.event.Event.TheVariants.{Datagram}
 use Rattle.end_model.specs.Reading.{message_in, at_zero}
-use Rattle.end_model.specs.Tunnels.{Tunnel}
-use Rattle.end_model.specs.End.{End, is_known, known_as}
+use Rattle.end_model.specs.Tunnels.{Tunnel, ByAnswer}
+use Rattle.end_model.specs.End.{End, is_known, known_as, is_answered, answered_to}
 use Rattle.step_laws.specs.Causes.{WouldOpen}
 use Rattle.step_laws.specs.Opens.{opens_said}
 use Rattle.step_laws.specs.Moves.{IsAgain, IsStop, HearsNext}
 use Rattle.step_laws.proofs.Lists.{and_left, and_right, none_passes, found_among}
 use Rattle.step_laws.proofs.Zero.{ZeroSays, zero_says}
+use Rattle.recovery_tunnel.specs.Answers.{Answering}
 
 -- a tunnel that is known by a peer's id goes to the peer
 pub known_peer : (peer remote : ℕ) (o : Option Tunnel) → is_known peer remote o ≡ true → (t : Tunnel) → o ≡ Some t → t.control.peer ≡ peer
@@ -101,3 +102,13 @@ module _ (e : End) (ev : Event) (i : ℕ) (t : Tunnel) (there : at e.tunnels i �
       came.body_is ∙ ap (λ (x : Header). body_of came.bytes x) once.one_header ∙ ap (λ (b : List ℕ). body_of b would.came.header) once.one_packet ∙ sym would.came.body_is in
       let both : Ok (Sccrp o) ≡ Ok (Sccrq p) = sym heard.says.said ∙ ap message_in bodies ∙ would.said in
       absurd cc
+
+-- ---- answers to attempts
+
+-- where no tunnel is found whose recovery tunnel answers an attempt, there is none
+pub none_answered : (peer remote : ℕ) (tunnels : List (ℕ × Tunnel)) → answered_to peer remote tunnels ≡ None
+    → (i : ℕ) (t : Tunnel) (a : Answering) → at tunnels i ≡ Some t → t.control.peer ≡ peer → t.recovery ≡ Some (ByAnswer a) → a.connection.remote ≡ remote → ⊥
+unfolding answered_to
+none_answered peer remote tunnels none i t a there goes has is =
+    none_passes (λ q. is_answered peer remote (at tunnels q)) (ids_of tunnels) i none (found_among tunnels i t there)
+    (rw (there, goes, has, is, eq-eqb peer peer refl, eq-eqb remote remote refl) refl)

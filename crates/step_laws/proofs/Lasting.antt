@@ -1,7 +1,7 @@
 -- A tunnel that a tick leaves hasn't failed.
 use Rattle.std.proofs.Common.{◌≡◌, ◌⊎◌, inl, inr, ⊎_elim, ℕ, ◌+◌, ◌<◌, Bool, true, false, cond, zero, suc, List, [], ◌∷◌, refl, sym, ap, ◌∙◌, subst, Option, Some, None, arith}
 use Rattle.std.proofs.lemmas.Bool.{true≢false}
-use Rattle.std.specs.Prelude.{◌==◌, ◌&&◌, ◌||◌, nat_le, nat_lt, length}
+use Rattle.std.specs.Prelude.{◌==◌, ◌&&◌, ◌||◌, nat_le, nat_lt, length, not}
 use Rattle.id_table.specs.Ids.{at, ids_of}
 use Rattle.wire_base.specs.declared.cause.Cause.{Cause as CauseOf}
 use Rattle.wire_base.specs.declared.cause.Cause.TheVariants as cause
@@ -24,12 +24,13 @@ use Rattle.call_link.specs.declared.turn.LinkTurn.{LinkTurn}
 use Rattle.call_link.specs.Link.{Link, is_due}
 use Rattle.end_model.specs.declared.event.Event.TheVariants.{Tick}
 use Rattle.end_model.specs.Calls.{counted_all, row_for, is_set_up, is_up}
-use Rattle.end_model.specs.Tunnels.{Tunnel, Turn, turn_of}
+use Rattle.end_model.specs.Tunnels.{Tunnel, Turn, turn_in, is_current}
 use Rattle.end_model.specs.Turn.{with_output, with_move, with_change, ends_call, drops}
 use Rattle.end_model.specs.Sending.{gives, sends_letter, sends_now, lets_go, goes_by, lets_all_go, repeats, acknowledges, outstanding, acknowledged_after, settles}
 use Rattle.end_model.specs.Channels.{has_room, counts_sent, counts_repeated}
 use Rattle.end_model.specs.Closing.{end_silent, end_told, ends_by}
-use Rattle.end_model.specs.Ticking.{greeted, greets, limits_at, limits_all, goes_quietly, clears, ticks_by, ticks}
+use Rattle.end_model.specs.Ticking.{greeted, greets, limits_at, limits_all, goes_quietly, ticks_by, ticks}
+use Rattle.end_model.specs.Stopping.{clears}
 use Rattle.end_model.specs.Linking.{sends_frames, ends_linked, links_by, ticks_link}
 use Rattle.end_model.specs.Moments.{is_over, patience, is_at_its_end}
 use Rattle.end_model.specs.Events.{turns}
@@ -40,6 +41,8 @@ use Rattle.step_laws.proofs.Lists.{branch}
 use Rattle.step_laws.proofs.Linking.{frames_same, negotiated_is}
 use Rattle.step_laws.proofs.Moments.{failed_ends}
 use Rattle.step_laws.proofs.Late.{ticks_leave}
+use Rattle.end_model.specs.Recovering.{recovery_ticks, recovering_turns}
+use Rattle.step_laws.proofs.Behind.{IsLeft, ticks_behind}
 
 module _ (moment : ℕ) where
   abbrev Lasts : Control → Type 0
@@ -140,7 +143,7 @@ module _ (moment : ℕ) where
     greets_good : (t : Turn) → Good t → Good (greets letters t)
     unfolding greets greeted with_move
     greets_good t h =
-        branch Good (state_number t.control.state == 3 && t.control.channel.window.queued == 0 && is_over patience t.on.moment t.control.heard) _ _
+        branch Good (state_number t.control.state == 3 && is_current t.on.mode && t.control.channel.window.queued == 0 && is_over patience t.on.moment t.control.heard) _ _
         (λ due. settled_good false letters _ (given_good 0 Hello _ h))
         (λ early. h)
 
@@ -148,7 +151,9 @@ module _ (moment : ℕ) where
     unfolding ends_by end_silent end_told ends_call drops with_output with_change with_move
     ends_good for result s c call_action.CleanUp t h = h
     ends_good for result s c call_action.SendCdn t h =
-        branch Good (has_room t.control) _ _ (λ may. given_good c.remote (Cdn s result None) _ h) (λ full. h)
+        branch Good (not (is_current t.on.mode)) _ _
+        (λ inactive. h)
+        (λ active. branch Good (has_room t.control) _ _ (λ may. given_good c.remote (Cdn s result None) _ h) (λ full. h))
     ends_good for result s c call_action.Nothing t h = h
     ends_good for result s c call_action.SendIcrq t h = h
     ends_good for result s c call_action.SendIcrp t h = h
@@ -220,9 +225,14 @@ module _ (moment : ℕ) where
         (ap (λ (m : ℕ). answer_to_tick t.control.channel m) (sym same)))
 
 module _ (e : End) (moment : ℕ) (block : List ℕ) where
-  turn_good : (t : Tunnel) → Ends moment e.role t.letters t.calls (turns e.role e.config t.letters t.calls Tick (turn_of t.control (env_of e moment block)))
-  unfolding turns
-  turn_good t = ticks_good moment e.role t.letters t.calls (turn_of t.control (env_of e moment block)) refl
+  turn_good : (t : Tunnel) → Ends moment e.role t.letters t.calls (recovering_turns e.role e.config t Tick (turn_in t (env_of e moment block))).turn
+  unfolding turns recovering_turns
+  turn_good t =
+      let u = turns e.role e.config t.letters t.calls Tick (turn_in t (env_of e moment block)) in
+      let h = ticks_good moment e.role t.letters t.calls (turn_in t (env_of e moment block)) refl in
+      ⊎_elim (λ gone. inl gone)
+      (λ (l : IsLeft u (recovery_ticks t.calls t.recovery u).turn). ⊎_elim (λ gone. inl (l.cleared ∙ gone)) (λ lasts. inr (subst (Lasts moment) (sym l.control) lasts)) h)
+      (ticks_behind t.calls t.recovery u)
 
 pub failed_tunnels_go : FailedTunnelsGo
 failed_tunnels_go e kept moment block i t there =

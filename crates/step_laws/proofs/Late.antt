@@ -13,10 +13,10 @@ use Rattle.call_fsm.specs.declared.table.CallState.{CallState}
 use Rattle.call_fsm.specs.declared.table.CallState.TheVariants as call
 use Rattle.call_fsm.specs.declared.table.CallEvent.TheVariants.{Close}
 use Rattle.end_model.specs.Calls.{call_row, is_set_up, is_told, is_clean_up}
-use Rattle.end_model.specs.Tunnels.{Tunnel, Env, Turn, turn_of}
+use Rattle.end_model.specs.Tunnels.{Tunnel, Env, turn_in}
 use Rattle.end_model.specs.Channels.{has_room}
 use Rattle.end_model.specs.Events.{turns, tunnel_after}
-use Rattle.end_model.specs.End.{End, env_of, tunnels_after, after_turn, Turned, tick_of, ticks_of, end_after_all, after_all, ticks_all, step_in, plain_step}
+use Rattle.end_model.specs.End.{End, env_of, tunnels_after, after_turn, Turned, tick_of, ticks_of, end_after_all, after_all, ticks_all, step_in, plain_step, after_both}
 use Rattle.step_laws.specs.Letters.{Among}
 use Rattle.step_laws.specs.Left.{CanBe, LateCallsEnd}
 use Rattle.step_laws.specs.Steps.{IsKept, AreKept, StepsAreChains}
@@ -25,7 +25,9 @@ use Rattle.step_laws.proofs.States.{never}
 use Rattle.step_laws.proofs.Moments.{is_past, set_up}
 use Rattle.step_laws.proofs.Owing.{Fits, live_with, holds_live, has_room_for}
 use Rattle.step_laws.proofs.Sound.{role_stays, stays_sound}
-use Rattle.step_laws.proofs.Patience.{IsDue, Ticks, ticks_ok}
+use Rattle.step_laws.proofs.Patience.{IsDue, Ticks, ticks_ok, stays_left}
+use Rattle.end_model.specs.Recovering.{RecoveryTurn, recovery_ticks, recovering_turns}
+use Rattle.step_laws.proofs.Behind.{IsLeft, ticks_behind}
 
 module _ (P : Tunnel → Type 0) where
   -- what holds of a tunnel, where it is there
@@ -35,10 +37,10 @@ module _ (P : Tunnel → Type 0) where
   -- ---- one turn
 
   abbrev after : Turned → Tunnel
-  after u = tunnel_after u.turn u.tunnel.letters u.tunnel.calls
+  after u = tunnel_after u.turn.turn u.tunnel.letters u.tunnel.calls u.turn.recovery
 
   abbrev IsGood : Turned → Type 0
-  IsGood u = (u.turn.cleared ≡ true) ⊎ P (after u)
+  IsGood u = (u.turn.turn.cleared ≡ true) ⊎ P (after u)
 
   order_after : (tunnels : List (ℕ × Tunnel)) (i : ℕ) (b : Bool) (t : Tunnel) → Ascends tunnels → Ascends (tunnels_after tunnels i b t)
   order_after tunnels i true t h = ascends-without i tunnels h
@@ -61,10 +63,10 @@ module _ (P : Tunnel → Type 0) where
   unfolding end_after_all after_turn
   all_hold [] good x order j h = ⊎_elim (λ holds. holds) (λ a. absurd a) h
   all_hold (u ∷ us) good x order j h =
-      let y = (after_turn x u.id u.tunnel.letters u.tunnel.calls u.turn).end in
+      let y = (after_both x u.id u.tunnel u.turn).end in
       let one : ((j ≡ u.id → ⊥) → HoldsAt x.tunnels j) → HoldsAt y.tunnels j =
-      λ others. holds_after x.tunnels u.id u.turn.cleared (after u) order good.0 j others in
-      all_hold us good.1 y (order_after x.tunnels u.id u.turn.cleared (after u) order) j
+      λ others. holds_after x.tunnels u.id u.turn.turn.cleared (after u) order good.0 j others in
+      all_hold us good.1 y (order_after x.tunnels u.id u.turn.turn.cleared (after u) order) j
       (⊎_elim
       (λ holds. inl (one (λ other. holds)))
       (λ among. ⊎_elim (λ (same : u.id ≡ j). inl (one (λ other. absurd (other (sym same))))) (λ later. inr later) among)
@@ -75,11 +77,11 @@ module _ (P : Tunnel → Type 0) where
     env = env_of e moment block
 
     -- the turn of a tunnel that is there
-    abbrev turn : Tunnel → Turn
-    turn t = turns e.role e.config t.letters t.calls Tick (turn_of t.control env)
+    abbrev turn : Tunnel → RecoveryTurn
+    turn t = recovering_turns e.role e.config t Tick (turn_in t env)
 
     abbrev Leaves : Type 0
-    Leaves = (i : ℕ) (t : Tunnel) → at e.tunnels i ≡ Some t → ((turn t).cleared ≡ true) ⊎ P (tunnel_after (turn t) t.letters t.calls)
+    Leaves = (i : ℕ) (t : Tunnel) → at e.tunnels i ≡ Some t → ((turn t).turn.cleared ≡ true) ⊎ P (tunnel_after (turn t).turn t.letters t.calls (turn t).recovery)
 
     tick_good : Leaves → (i : ℕ) (o : Option Tunnel) → at e.tunnels i ≡ o → (us : List Turned) → AllByRecursion IsGood us
         → AllByRecursion IsGood (tick_of e env i o ++ us)
@@ -137,9 +139,15 @@ module _ (e : End) (kept : AreKept e) (moment : ℕ) (block : List ℕ) where
   NoneIsDue t = (s : ℕ) (c : Call) → at t.calls s ≡ Some c → IsDue e.role moment s c → has_room t.control ≡ false
 
   pub ticked : (i : ℕ) (t : Tunnel) → at e.tunnels i ≡ Some t
-      → Ticks e.role moment t.calls t.letters (turn_of t.control (env_of e moment block)) (turns e.role e.config t.letters t.calls Tick (turn_of t.control (env_of e moment block)))
-  unfolding turns
-  ticked i t is = ticks_ok e.role moment t.calls t.letters (turn_of t.control (env_of e moment block)) (kept.tunnels i t is).calls refl refl
+      → Ticks e.role moment t.calls t.letters (turn_in t (env_of e moment block)) (recovering_turns e.role e.config t Tick (turn_in t (env_of e moment block))).turn
+  unfolding turns recovering_turns
+  ticked i t is =
+      let start = turn_in t (env_of e moment block) in
+      let u = turns e.role e.config t.letters t.calls Tick start in
+      let h = ticks_ok e.role moment t.calls t.letters start (kept.tunnels i t is).calls refl refl in
+      ⊎_elim (λ gone. inl gone)
+      (λ (l : IsLeft u (recovery_ticks t.calls t.recovery u).turn). ⊎_elim (λ gone. inl (l.cleared ∙ gone)) (λ stays. inr (stays_left e.role moment t.calls t.letters start u _ l.control l.changed stays)) h)
+      (ticks_behind t.calls t.recovery u)
 
   none_is_due : (i : ℕ) (t : Tunnel) → at (plain_step e moment block Tick).end.tunnels i ≡ Some t → NoneIsDue t
   none_is_due i t there =

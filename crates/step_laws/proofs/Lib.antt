@@ -11,6 +11,7 @@ mod Secrets
 mod Chosen
 mod Granting
 mod Openings
+mod HeldLetters
 mod Turns
 mod Outputs
 mod Settling
@@ -18,6 +19,7 @@ mod Sending
 mod Comes
 mod Shutting
 mod Closing
+mod Finished
 mod Keeping
 mod Linking
 mod Calls
@@ -27,20 +29,31 @@ mod Hearing
 mod Moments
 mod Named
 mod Ticking
+mod Progressing
+mod OnLine
+mod Leaving
 mod Ends
+mod LineConnections
+mod Recovered
+mod Freezing
 mod Declining
 mod Ticks
 mod Quiet
+mod QuietLines
 mod Events
 pub mod Steps
 mod Sound
 mod Patience
+mod Behind
 mod Late
 mod Lasting
+mod WaitingCalls
 mod Asking
 mod LcpAsked
 mod NewTunnels
+mod Attempting
 mod Waiting
+pub mod LookParts
 pub mod Looks
 mod Few
 mod Full
@@ -57,5 +70,10 @@ mod Distinct
 mod Untold
 mod Parting
 mod Unborn
+mod LineParts
 pub mod Gone
 pub mod Rings
+mod Booked
+pub mod Starts
+mod Returning
+pub mod Restarts

@@ -21,7 +21,7 @@ use Rattle.end_model.specs.declared.moves.FrameSent.{FrameSent}
 use Rattle.end_model.specs.declared.moves.Move.TheVariants as move
 use Rattle.end_model.specs.Calls.{row_for, advanced, counted, counted_all, number_of, number_after, is_up, is_told}
 use Rattle.end_model.specs.Links.{link_env, with_link, looks_of}
-use Rattle.end_model.specs.Tunnels.{Tunnel, Turn}
+use Rattle.end_model.specs.Tunnels.{Tunnel, Turn, Recovering}
 use Rattle.end_model.specs.Turn.{with_output, with_move, with_call, with_looks_of, with_change}
 use Rattle.end_model.specs.Events.{with_calls, tunnel_after}
 use Rattle.end_model.specs.Frames.{sends_frame, counts, carried}
@@ -37,8 +37,8 @@ use Rattle.step_laws.specs.Moves.{WhyEnds, IsEnded}
 use Rattle.step_laws.proofs.Lists.{all_push, among_right, with_calls-more, chain_more}
 use Rattle.step_laws.proofs.Outputs.{frames_more}
 use Rattle.step_laws.proofs.Owing.{up_owes, fits_same, owes_told}
-use Rattle.step_laws.proofs.Turns.{at_turn, there, fits_changed, Others, connected_call}
-use Rattle.step_laws.proofs.Settling.{Settled, outs_on, goes_nowhere, settled_ok}
+use Rattle.step_laws.proofs.Turns.{at_turn, there, fits_changed, Others, connected_call, IsCurrent}
+use Rattle.step_laws.proofs.Settling.{Settled, outs_on, goes_nowhere, settled_so}
 use Rattle.step_laws.proofs.Keeping.{settled_keeps}
 use Rattle.step_laws.proofs.Closing.{Leaves, ends_leave}
 
@@ -131,9 +131,9 @@ unfolding negotiated with_looks_of with_move with_call
 negotiated_put calls s c v t =
     with_calls-more (sent s c v t).changed s (Some (linked_call c v)) calls ∙ frames_put calls s v.frames c t (linked_call c v)
 
-module _ (e : End) (moment : ℕ) (ev : Event) (letters : List Letter) (calls : List (ℕ × Call)) (i : ℕ) where
+module _ (e : End) (moment : ℕ) (ev : Event) (letters : List Letter) (calls : List (ℕ × Call)) (recovery : Option Recovering) (i : ℕ) where
   abbrev tunnel : Turn → Tunnel
-  tunnel t = tunnel_after t letters calls
+  tunnel t = tunnel_after t letters calls recovery
 
   abbrev now : Turn → List (ℕ × Call)
   now t = with_calls t.changed calls
@@ -150,16 +150,16 @@ module _ (e : End) (moment : ℕ) (ev : Event) (letters : List Letter) (calls : 
 
   -- a number is counted
   counted_ok : (s : ℕ) (c : Call) (n : ℕ) (t : Turn) → c.sequence ≡ Some n → at (now t) s ≡ Some c → is_up c.state ≡ true
-      → Settled e moment ev letters calls i t
-      → Settled e moment ev letters calls i (with_move (move.Counted (record { tunnel = t.control.local; session = s })) (with_call s (counted c) t))
+      → Settled e moment ev letters calls recovery i t
+      → Settled e moment ev letters calls recovery i (with_move (move.Counted (record { tunnel = t.control.local; session = s })) (with_call s (counted c) t))
   unfolding with_move with_call
   counted_ok s c n t has found up h =
       let m = move.Counted (record { tunnel = t.control.local; session = s }) in
       let d = counted c in
       record {
-        chain = chain_more moment ev e (at_turn e moment ev letters calls i t) _ t.moves m h.chain (record {
+        chain = chain_more moment ev e (at_turn e moment ev letters calls recovery i t) _ t.moves m h.chain (record {
           tunnel = tunnel t;
-          there = there e moment ev letters calls i t;
+          there = there e moment ev letters calls recovery i t;
           call = c;
           live = found;
           up = up;
@@ -169,7 +169,7 @@ module _ (e : End) (moment : ℕ) (ev : Event) (letters : List Letter) (calls : 
               let changed = with_calls-more t.changed s (Some d) calls in
               rw (changed, put-put e.tunnels t.control.local (tunnel t) _) refl;
         });
-        outs = outs_on e moment ev letters calls i t (with_move m (with_call s d t)) (record {
+        outs = outs_on e moment ev letters calls recovery i t (with_move m (with_call s d t)) (record {
           local = refl;
           peer = refl;
           remote = refl;
@@ -177,16 +177,18 @@ module _ (e : End) (moment : ℕ) (ev : Event) (letters : List Letter) (calls : 
           inbox = refl;
           more = [];
           letters = sym (append-nil (tunnel t).letters);
+          recovery = refl;
         }) (m ∷ []) refl h;
         tells = h.tells;
         frames = all_push _ t.moves m h.frames tt;
         stays = h.stays;
+        goes = h.goes;
         held = h.held;
-        fits = fits_changed e moment ev letters calls i t.control t s (Some d) (fits_same t.control (now t) s d c found refl h.fits);
+        fits = fits_changed e moment ev letters calls recovery i t.control t s (Some d) (fits_same t.control (now t) s d c found refl h.fits);
       }
 
   counts_ok : (s : ℕ) (c : Call) (o : Option ℕ) (t : Turn) → c.sequence ≡ o → at (now t) s ≡ Some c → is_up c.state ≡ true
-      → Settled e moment ev letters calls i t → Settled e moment ev letters calls i (counts s c o t)
+      → Settled e moment ev letters calls recovery i t → Settled e moment ev letters calls recovery i (counts s c o t)
   unfolding counts
   counts_ok s c None t is found up h = h
   counts_ok s c (Some n) t is found up h = counted_ok s c n t is found up h
@@ -203,7 +205,7 @@ module _ (e : End) (moment : ℕ) (ev : Event) (letters : List Letter) (calls : 
       ap (λ xs. at xs s) (with_calls-more t.changed s (Some (counted c)) calls) ∙ at_new (now t) s (counted c)
 
   sends_frame_ok : (s : ℕ) (frame : List ℕ) (c : Call) (t : Turn) → at (now t) s ≡ Some c → is_up c.state ≡ true
-      → WhySent ev moment t.control s c frame → Settled e moment ev letters calls i t → Settled e moment ev letters calls i (sends_frame s frame c t)
+      → WhySent ev moment t.control s c frame → Settled e moment ev letters calls recovery i t → Settled e moment ev letters calls recovery i (sends_frame s frame c t)
   unfolding sends_frame with_output with_move
   sends_frame_ok s frame c t found up why h =
       let f : FrameSent = record {
@@ -217,9 +219,9 @@ module _ (e : End) (moment : ℕ) (ev : Event) (letters : List Letter) (calls : 
       let small = number_is c.sequence in
       let m = move.FrameSent f in
       record {
-        chain = chain_more moment ev e (at_turn e moment ev letters calls i t) _ t.moves m h.chain (record {
+        chain = chain_more moment ev e (at_turn e moment ev letters calls recovery i t) _ t.moves m h.chain (record {
           tunnel = tunnel t;
-          there = there e moment ev letters calls i t;
+          there = there e moment ev letters calls recovery i t;
           peer = refl;
           call = c;
           calls = found;
@@ -229,18 +231,19 @@ module _ (e : End) (moment : ℕ) (ev : Event) (letters : List Letter) (calls : 
           given = why;
           after = refl;
         });
-        outs = all_push _ t.outputs _ (outs_on e moment ev letters calls i t (with_move m t) (goes_nowhere (tunnel t)) (m ∷ []) refl h)
+        outs = all_push _ t.outputs _ (outs_on e moment ev letters calls recovery i t (with_move m t) (goes_nowhere (tunnel t)) (m ∷ []) refl h)
             (refl, AFrame f (among_right m t.moves (m ∷ []) (inl refl)) refl refl small refl refl);
         tells = all_push _ t.outputs _ h.tells tt;
         frames = all_push _ t.moves m (frames_more t.outputs _ t.moves h.frames)
             (t.control.remote, small, among_right _ t.outputs _ (inl refl));
         stays = h.stays;
+        goes = h.goes;
         held = h.held;
         fits = h.fits;
       }
 
   pub carried_ok : (s : ℕ) (frame : List ℕ) (c : Call) (t : Turn) → at (now t) s ≡ Some c → is_up c.state ≡ true
-      → WhySent ev moment t.control s c frame → Settled e moment ev letters calls i t → Settled e moment ev letters calls i (carried s frame c t)
+      → WhySent ev moment t.control s c frame → Settled e moment ev letters calls recovery i t → Settled e moment ev letters calls recovery i (carried s frame c t)
   unfolding carried
   carried_ok s frame c t found up why h =
       counts_ok s c c.sequence (sends_frame s frame c t) refl (still_found s frame c t found) up (sends_frame_ok s frame c t found up why h)
@@ -264,8 +267,8 @@ module _ (e : End) (moment : ℕ) (ev : Event) (letters : List Letter) (calls : 
 
   -- each of these frames
   frames_ok : (s : ℕ) (fs : List (List ℕ)) (c : Call) (t : Turn) → at (now t) s ≡ Some c → is_up c.state ≡ true
-      → ((f : List ℕ) → Among f fs → WhySent ev moment t.control s c f) → Settled e moment ev letters calls i t
-      → Settled e moment ev letters calls i (sends_frames s fs c t)
+      → ((f : List ℕ) → Among f fs → WhySent ev moment t.control s c f) → Settled e moment ev letters calls recovery i t
+      → Settled e moment ev letters calls recovery i (sends_frames s fs c t)
   unfolding sends_frames
   frames_ok s [] c t found up why h = h
   frames_ok s (f ∷ fs) c t found up why h =
@@ -289,8 +292,8 @@ module _ (e : End) (moment : ℕ) (ev : Event) (letters : List Letter) (calls : 
   abbrev calls_it : (s : ℕ) (c : Call) (l : Link) (by : LinkStep) (t : Turn) → IsLinked s c l by t → Calls ev moment t.control s c
   calls_it s c l by t k = record { link = l; has = k.has; by = by; at_moment = k.at_moment; called = k.called }
 
-  pub sent_ok : (s : ℕ) (c : Call) (l : Link) (by : LinkStep) (t : Turn) → IsLinked s c l by t → Settled e moment ev letters calls i t
-      → Settled e moment ev letters calls i (sent s c (turn_at by l) t)
+  pub sent_ok : (s : ℕ) (c : Call) (l : Link) (by : LinkStep) (t : Turn) → IsLinked s c l by t → Settled e moment ev letters calls recovery i t
+      → Settled e moment ev letters calls recovery i (sent s c (turn_at by l) t)
   sent_ok s c l by t k h =
       frames_ok s (turn_at by l).frames c t k.found k.up (λ f a. IsOfLink (record { calls = calls_it s c l by t k; among = a })) h
 
@@ -308,8 +311,8 @@ module _ (e : End) (moment : ℕ) (ev : Event) (letters : List Letter) (calls : 
       }
 
   -- a turn that was settled, with the call as its link leaves it
-  kept_ok : (s : ℕ) (c : Call) (l : Link) (by : LinkStep) (t : Turn) → IsLinked s c l by t → Settled e moment ev letters calls i t
-      → Settled e moment ev letters calls i (with_looks_of (looks_of (turn_at by l).opens s)
+  kept_ok : (s : ℕ) (c : Call) (l : Link) (by : LinkStep) (t : Turn) → IsLinked s c l by t → Settled e moment ev letters calls recovery i t
+      → Settled e moment ev letters calls recovery i (with_looks_of (looks_of (turn_at by l).opens s)
       (with_move (move.Negotiated (record { tunnel = t.control.local; session = s })) (with_call s (with_link (turn_at by l).link c) t)))
   unfolding with_looks_of with_move with_call
   kept_ok s c l by t k h =
@@ -317,9 +320,9 @@ module _ (e : End) (moment : ℕ) (ev : Event) (letters : List Letter) (calls : 
       let d = with_link (turn_at by l).link c in
       let cs = looks_of (turn_at by l).opens s in
       record {
-        chain = chain_more moment ev e (at_turn e moment ev letters calls i t) _ t.moves m h.chain (record {
+        chain = chain_more moment ev e (at_turn e moment ev letters calls recovery i t) _ t.moves m h.chain (record {
           tunnel = tunnel t;
-          there = there e moment ev letters calls i t;
+          there = there e moment ev letters calls recovery i t;
           call = c;
           live = k.found;
           up = k.up;
@@ -329,7 +332,7 @@ module _ (e : End) (moment : ℕ) (ev : Event) (letters : List Letter) (calls : 
               let looked = with_looks-append t.changes cs (placed t.control.local t.added e.calls) in
               rw (changed, looked, put-put e.tunnels t.control.local (tunnel t) _) refl;
         });
-        outs = outs_on e moment ev letters calls i t (with_move m (with_call s d t)) (record {
+        outs = outs_on e moment ev letters calls recovery i t (with_move m (with_call s d t)) (record {
           local = refl;
           peer = refl;
           remote = refl;
@@ -337,31 +340,33 @@ module _ (e : End) (moment : ℕ) (ev : Event) (letters : List Letter) (calls : 
           inbox = refl;
           more = [];
           letters = sym (append-nil (tunnel t).letters);
+          recovery = refl;
         }) (m ∷ []) refl h;
         tells = h.tells;
         frames = all_push _ t.moves m h.frames tt;
         stays = h.stays;
+        goes = h.goes;
         held = h.held;
-        fits = fits_changed e moment ev letters calls i t.control t s (Some d) (fits_same t.control (now t) s d c k.found refl h.fits);
+        fits = fits_changed e moment ev letters calls recovery i t.control t s (Some d) (fits_same t.control (now t) s d c k.found refl h.fits);
       }
 
-  pub negotiated_ok : (s : ℕ) (c : Call) (l : Link) (by : LinkStep) (t : Turn) → IsLinked s c l by t → Settled e moment ev letters calls i t
-      → Settled e moment ev letters calls i (negotiated s c (turn_at by l) t)
+  pub negotiated_ok : (s : ℕ) (c : Call) (l : Link) (by : LinkStep) (t : Turn) → IsLinked s c l by t → Settled e moment ev letters calls recovery i t
+      → Settled e moment ev letters calls recovery i (negotiated s c (turn_at by l) t)
   unfolding negotiated
   negotiated_ok s c l by t k h =
       let v = turn_at by l in
       let u = sent s c v t in
-      subst (λ (j : ℕ). Settled e moment ev letters calls i (with_looks_of (looks_of v.opens s)
+      subst (λ (j : ℕ). Settled e moment ev letters calls recovery i (with_looks_of (looks_of v.opens s)
       (with_move (move.Negotiated (record { tunnel = j; session = s })) (with_call s (linked_call c v) u))))
       (ap (λ (x : Turn). x.control.local) (frames_same s v.frames c t))
       (kept_ok s (sent_call c v) l by u (sent_linked s c l by t k) (sent_ok s c l by t k h))
 
   -- a turn that changes one call
-  one_changed : (s : ℕ) (d : Call) (t u : Turn) → now u ≡ put (now t) s d → Others e moment ev letters calls i s t u
+  one_changed : (s : ℕ) (d : Call) (t u : Turn) → now u ≡ put (now t) s d → Others e moment ev letters calls recovery i s t u
   one_changed s d t u is q o = ap (λ xs. at xs q) is ∙ at_other (now t) s d q o
 
-  negotiated_leaves : (s : ℕ) (c : Call) (l : Link) (by : LinkStep) (t : Turn) → IsLinked s c l by t → Settled e moment ev letters calls i t
-      → Leaves e moment ev letters calls i s t (negotiated s c (turn_at by l) t)
+  negotiated_leaves : (s : ℕ) (c : Call) (l : Link) (by : LinkStep) (t : Turn) → IsLinked s c l by t → Settled e moment ev letters calls recovery i t
+      → Leaves e moment ev letters calls recovery i s t (negotiated s c (turn_at by l) t)
   negotiated_leaves s c l by t k h =
       let v = turn_at by l in
       let is = negotiated_is s c v t in
@@ -373,15 +378,15 @@ module _ (e : End) (moment : ℕ) (ev : Event) (letters : List Letter) (calls : 
       }
 
   -- frames that are sent in a call leave the others
-  sent_others : (s : ℕ) (c : Call) (v : LinkTurn) (t : Turn) → Others e moment ev letters calls i s t (sent s c v t)
+  sent_others : (s : ℕ) (c : Call) (v : LinkTurn) (t : Turn) → Others e moment ev letters calls recovery i s t (sent s c v t)
   sent_others s c v t q o =
       let u = sent s c v t in
       sym (at_other (now u) s c q o) ∙ (ap (λ xs. at xs q) (frames_put calls s v.frames c t c) ∙ at_other (now t) s c q o)
 
   -- where its link ends it a call ends
   ended_leaves : (s : ℕ) (c : Call) (l : Link) (by : LinkStep) (why : Cause) (t : Turn) → IsLinked s c l by t → s < 65536 → (turn_at by l).ends ≡ Some why
-      → (is_told (row_for e.role c call_event.Close).1 ≡ true → Stands e moment ev why) → Settled e moment ev letters calls i t
-      → Leaves e moment ev letters calls i s t (ends_linked e.role letters s c (turn_at by l) why t)
+      → (is_told (row_for e.role c call_event.Close).1 ≡ true → IsCurrent recovery → Stands e moment ev why) → Settled e moment ev letters calls recovery i t
+      → Leaves e moment ev letters calls recovery i s t (ends_linked e.role letters s c (turn_at by l) why t)
   unfolding ends_linked
   ended_leaves s c l by why t k small ends so h =
       let v = turn_at by l in
@@ -391,30 +396,30 @@ module _ (e : End) (moment : ℕ) (ev : Event) (letters : List Letter) (calls : 
       let sent = sent_ok s c l by t k h in
       let same = frames_same s v.frames c t in
       let over = ends_by why 3 None s d (row_for e.role c call_event.Close).1 u in
-      let reason : WhyEnds (at_turn e moment ev letters calls i u) (tunnel u) ev moment s d call_event.Close 3 None =
+      let reason : WhyEnds (at_turn e moment ev letters calls recovery i u) (tunnel u) ev moment s d call_event.Close 3 None =
       IsEnded why (record { calls = calls_it s d l by u still; ends = ends }) refl refl refl in
       let one = up_owes c.state k.up in
-      let left = ends_leave e moment ev letters calls i why s d call_event.Close 3 None u still.found reason small
-      (λ told. (owes_told u.control (now u) s d still.found (omega (arith, one)) sent.fits, so told))
+      let left = ends_leave e moment ev letters calls recovery i why s d call_event.Close 3 None u still.found reason small
+      (λ told current. (owes_told u.control (now u) s d still.found (omega (arith, one)) sent.fits, so told current))
       (row_for e.role c call_event.Close).1 refl sent in
       let keeps = settled_keeps false letters over in
       record {
-        ok = settled_ok e moment ev letters calls i false over left.ok;
+        ok = settled_so e moment ev letters calls recovery i over left.ok;
         others = λ q o. ap (λ xs. at (with_calls xs calls) q) keeps.changed ∙ (left.others q o ∙ sent_others s c v t q o);
         added = keeps.added ∙ (left.added ∙ ap (λ (x : Turn). x.added) same);
         ids = keeps.ids ∙ (left.ids ∙ ap (λ (x : Turn). x.ids) same);
       }
 
   linked_leaves : (s : ℕ) (c : Call) (l : Link) (by : LinkStep) (o : Option Cause) (t : Turn) → (turn_at by l).ends ≡ o → IsLinked s c l by t → s < 65536
-      → ((why : Cause) → (turn_at by l).ends ≡ Some why → is_told (row_for e.role c call_event.Close).1 ≡ true → Stands e moment ev why)
-      → Settled e moment ev letters calls i t → Leaves e moment ev letters calls i s t (links_by e.role letters s c (turn_at by l) o t)
+      → ((why : Cause) → (turn_at by l).ends ≡ Some why → is_told (row_for e.role c call_event.Close).1 ≡ true → IsCurrent recovery → Stands e moment ev why)
+      → Settled e moment ev letters calls recovery i t → Leaves e moment ev letters calls recovery i s t (links_by e.role letters s c (turn_at by l) o t)
   unfolding links_by
   linked_leaves s c l by None t is k small so h = negotiated_leaves s c l by t k h
   linked_leaves s c l by (Some why) t is k small so h = ended_leaves s c l by why t k small is (so why is) h
 
   pub links_leave : (s : ℕ) (c : Call) (l : Link) (by : LinkStep) (t : Turn) → IsLinked s c l by t → s < 65536
-      → ((why : Cause) → (turn_at by l).ends ≡ Some why → is_told (row_for e.role c call_event.Close).1 ≡ true → Stands e moment ev why)
-      → Settled e moment ev letters calls i t → Leaves e moment ev letters calls i s t (links e.role letters s c (turn_at by l) t)
+      → ((why : Cause) → (turn_at by l).ends ≡ Some why → is_told (row_for e.role c call_event.Close).1 ≡ true → IsCurrent recovery → Stands e moment ev why)
+      → Settled e moment ev letters calls recovery i t → Leaves e moment ev letters calls recovery i s t (links e.role letters s c (turn_at by l) t)
   links_leave s c l by t k small so h = linked_leaves s c l by (turn_at by l).ends t refl k small so h
 
   -- ---- a call that is connected
@@ -425,11 +430,11 @@ module _ (e : End) (moment : ℕ) (ev : Event) (letters : List Letter) (calls : 
   connected_found sequenced s d t = ap (λ xs. at xs s) (with_calls-more t.changed s (Some d) calls) ∙ at_new (now t) s d
 
   pub linked_up_ok : (sequenced : Bool) (s : ℕ) (c : Call) (t : Turn) → is_up (row_for e.role c call_event.IccnAcc).0 ≡ true → t.on.moment ≡ moment
-      → Settled e moment ev letters calls i (second_up sequenced s (connected_call e moment ev letters calls i sequenced t.on.block c t) t)
-      → Settled e moment ev letters calls i (linked_up e.role sequenced s c t)
+      → Settled e moment ev letters calls recovery i (second_up sequenced s (connected_call e moment ev letters calls recovery i sequenced t.on.block c t) t)
+      → Settled e moment ev letters calls recovery i (linked_up e.role sequenced s c t)
   unfolding linked_up connects_call advanced
   linked_up_ok sequenced s c t row same h =
-      let d = connected_call e moment ev letters calls i sequenced t.on.block c t in
+      let d = connected_call e moment ev letters calls recovery i sequenced t.on.block c t in
       let l = new_link (link_env t.on) in
       negotiated_ok s d l (record { env = link_env t.on; call = Opens }) (second_up sequenced s d t)
       (record { found = connected_found sequenced s d t; has = refl; up = row; at_moment = same; called = ToOpen refl refl }) h

@@ -1,11 +1,16 @@
 -- Lists that grow at their end, and what is found in lists and tables.
-use Rattle.std.proofs.Common.{◌≡◌, ◌⊎◌, inl, inr, ⊎_elim, ℕ, Bool, true, false, cond, eqb, zero, suc, List, [], ◌∷◌, ◌++◌, refl, sym, ap, ◌∙◌, subst, Option, Some, None}
+use Rattle.std.proofs.Common.{◌≡◌, ◌⊎◌, inl, inr, ⊎_elim, ℕ, ◌<◌, arith, Bool, true, false, cond, eqb, zero, suc, List, [], ◌∷◌, ◌++◌, refl, sym, ap, ◌∙◌, subst, Option, Some, None}
 use Rattle.std.proofs.lemmas.Bool.{eqb-true, eqb-false, true≢false}
 use Rattle.std.proofs.lemmas.Option.{none-some}
 use Rattle.std.specs.List.{AllByRecursion, find}
-use Rattle.std.specs.Prelude.{slice_get, ◌&&◌, map}
+use Rattle.std.specs.Prelude.{slice_get, ◌&&◌, ◌||◌, not, map}
+use Rattle.std.specs.declared.cmp.Ordering.{Ordering}
+use Rattle.std.specs.declared.cmp.Ordering.TheVariants.{Less, Equal, Greater}
+use Rattle.std.specs.Ordering.{nat_cmp}
+use Rattle.std.specs.BTreeMap.{is_at}
+use Rattle.std.proofs.lemmas.Bool.Decides.{nat_tests}
 use Rattle.id_table.specs.Ids.{at, put, without, at-none, at-cons, ids_of}
-use Rattle.id_table.specs.Order.{Ascends, ascends-put, ascends-without, at_without_same, at_without_other, same_or_not}
+use Rattle.id_table.specs.Order.{IsAbove, Ascends, ascends-put, ascends-without, at_without_same, at_without_other, same_or_not}
 use Rattle.end_model.specs.declared.event.Event.{Event}
 use Rattle.end_model.specs.declared.tunnel.Call.{Call}
 use Rattle.end_model.specs.declared.tunnel.CallPlace.{CallPlace}
@@ -165,3 +170,75 @@ unfolding with_looks with_look
 killed_other [] places q none = refl
 killed_other (s ∷ ss) places q none =
     killed_other ss (without places s) q (λ a. none (inr a)) ∙ at_without_other places s q (λ e. none (inl (sym e)))
+
+pub not_true : (a : Bool) → not a ≡ true → a ≡ false
+not_true true h = absurd (true≢false (sym h))
+not_true false h = refl
+
+pub not_false : (a : Bool) → not a ≡ false → a ≡ true
+not_false true h = refl
+not_false false h = absurd (true≢false h)
+
+pub or_left : (a b : Bool) → (a || b) ≡ false → a ≡ false
+or_left true b h = absurd (true≢false h)
+or_left false b h = refl
+
+-- ---- a value that is changed and taken out
+
+cmp_same : (k : ℕ) → nat_cmp k k ≡ Equal
+cmp_same k = grind (arith, nat_tests)
+
+above_other : (k j : ℕ) → k < j → is_at (nat_cmp k) j ≡ false
+above_other k j less = grind (arith, nat_tests)
+
+less_of : (k j : ℕ) → nat_cmp k j ≡ Less → k < j
+less_of k j is = grind (arith, nat_tests)
+
+below : (k j m : ℕ) → nat_cmp k j ≡ Less → j < m → k < m
+below k j m is less = grind (arith, nat_tests)
+
+module _ {X : Type 0} where
+  without_above : (k : ℕ) (es : List (ℕ × X)) → IsAbove k es → without es k ≡ es
+  unfolding without
+  without_above k [] above = refl
+  without_above k (e ∷ es) above = let less = above.0 in rw (above_other k e.0 less, without_above k es above.1) refl
+
+  put_less : (e : ℕ × X) (es : List (ℕ × X)) (k : ℕ) (v : X) → nat_cmp k e.0 ≡ Less → put (e ∷ es) k v ≡ (k, v) ∷ e ∷ es
+  unfolding put
+  put_less e es k v h = rw h refl
+
+  put_equal : (e : ℕ × X) (es : List (ℕ × X)) (k : ℕ) (v : X) → nat_cmp k e.0 ≡ Equal → put (e ∷ es) k v ≡ (e.0, v) ∷ es
+  unfolding put
+  put_equal e es k v h = rw h refl
+
+  put_greater : (e : ℕ × X) (es : List (ℕ × X)) (k : ℕ) (v : X) → nat_cmp k e.0 ≡ Greater → put (e ∷ es) k v ≡ e ∷ put es k v
+  unfolding put
+  put_greater e es k v h = rw h refl
+
+  without_equal : (e : ℕ × X) (es : List (ℕ × X)) (k : ℕ) → nat_cmp k e.0 ≡ Equal → without (e ∷ es) k ≡ es
+  unfolding without
+  without_equal e es k h = rw h refl
+
+  without_greater : (e : ℕ × X) (es : List (ℕ × X)) (k : ℕ) → nat_cmp k e.0 ≡ Greater → without (e ∷ es) k ≡ e ∷ without es k
+  unfolding without
+  without_greater e es k h = rw h refl
+
+  nothing_put : (k : ℕ) (v : X) → without (put [] k v) k ≡ without [] k
+  unfolding put without
+  nothing_put k v = let same = cmp_same k in rw same refl
+
+  lower_above : (k j : ℕ) (es : List (ℕ × X)) → nat_cmp k j ≡ Less → IsAbove j es → IsAbove k es
+  lower_above k j [] less above = tt
+  lower_above k j (e ∷ es) less above = (below k j e.0 less above.0, lower_above k j es less above.1)
+
+  without_put_by : (e : ℕ × X) (es : List (ℕ × X)) (k : ℕ) (v : X) → IsAbove e.0 es → without (put es k v) k ≡ without es k
+      → (o : Ordering) → nat_cmp k e.0 ≡ o → without (put (e ∷ es) k v) k ≡ without (e ∷ es) k
+  without_put_by e es k v above ih Less h =
+      rw (put_less e es k v h, without_equal (k, v) (e ∷ es) k (cmp_same k)) (sym (without_above k (e ∷ es) (less_of k e.0 h, lower_above k e.0 es h above)))
+  without_put_by e es k v above ih Equal h = rw (put_equal e es k v h, without_equal (e.0, v) es k h, without_equal e es k h) refl
+  without_put_by e es k v above ih Greater h = rw (put_greater e es k v h, without_greater e (put es k v) k h, without_greater e es k h, ih) refl
+
+  pub without_put : (es : List (ℕ × X)) (k : ℕ) (v : X) → Ascends es → without (put es k v) k ≡ without es k
+  unfolding Ascends
+  without_put [] k v sorted = nothing_put k v
+  without_put (e ∷ es) k v sorted = without_put_by e es k v sorted.0 (without_put es k v sorted.1) (nat_cmp k e.0) refl

@@ -1,21 +1,18 @@
 -- What the data plane sees of each session stays so.
-use Rattle.std.proofs.Common.{◌≡◌, ⊎_elim, ℕ, ◌+◌, ◌<◌, ◌≤◌, Bool, true, false, List, [], ◌∷◌, refl, sym, ap, ◌∙◌, subst, Option, Some, None, Ok, arith}
-use Rattle.std.proofs.lemmas.Bool.{true≢false}
+use Rattle.std.proofs.Common.{◌≡◌, ⊎_elim, ℕ, ◌+◌, ◌<◌, ◌≤◌, Bool, List, [], ◌∷◌, refl, sym, ap, ◌∙◌, subst, Option, Some, None, Ok, arith, Result, Err}
 use Rattle.std.proofs.lemmas.Option.{none-some}
-use Rattle.std.specs.Prelude.{◌&&◌, not, map}
-use Rattle.id_source.specs.Spaces.{Space, takes_id, after_id, draw_is, next_is}
+use Rattle.std.specs.Prelude.{map, filter}
+use Rattle.id_source.specs.Spaces.{Space, takes_id, after_id, draw_is, with_taken}
 use Rattle.wire_base.specs.declared.letter.Letter.{Letter}
 use Rattle.tunnel_fsm.specs.declared.table.TunnelState.TheVariants as tunnel
-use Rattle.id_table.specs.Ids.{at, put, without, at-none, ids_of}
-use Rattle.id_table.specs.Order.{Ascends, ascends-put, ascends-empty, at_new, at_other, found_put, same_or_not, at_without_other, ascends-without, found_without}
+use Rattle.id_table.specs.Ids.{at, put, without, at-none, ids_of, put-put}
+use Rattle.id_table.specs.Order.{Ascends, ascends-put, ascends-empty, at_new, at_other, found_put, same_or_not, at_without_other, ascends-without, found_without, put-again}
 use Rattle.call_fsm.specs.declared.table.CallEvent.TheVariants as call_event
-use Rattle.call_fsm.specs.declared.table.CallState.{CallState}
 use Rattle.call_fsm.specs.declared.table.CallState.TheVariants.{Established}
-use Rattle.call_link.specs.Link.{Link, new_link}
+use Rattle.call_link.specs.Link.{new_link}
 use Rattle.call_link.specs.Laws.{turn_at}
 use Rattle.call_link.specs.Told.{each_tells_opening}
 use Rattle.end_names.specs.declared.role.Role.{Role}
-use Rattle.end_names.specs.declared.role.Role.TheVariants.{Lac, Lns}
 use Rattle.end_model.specs.declared.event.Event.{Event}
 use Rattle.end_model.specs.declared.moves.Move.{Move}
 use Rattle.end_model.specs.declared.moves.Move.TheVariants as move
@@ -24,75 +21,26 @@ use Rattle.end_model.specs.declared.tunnel.CallPlace.{CallPlace}
 use Rattle.session_looks.specs.declared.look.CellChange.TheVariants as cell
 use Rattle.end_model.specs.declared.tunnel.Control.{Control}
 use Rattle.session_looks.specs.declared.look.Look.TheVariants as look
-use Rattle.end_model.specs.Calls.{call_row, advanced, with_numbers, counted, rung, asked_for}
-use Rattle.end_model.specs.Tunnels.{Tunnel, new_tunnel}
+use Rattle.end_model.specs.Calls.{advanced, with_numbers, counted, rung, asked_for}
+use Rattle.end_model.specs.Tunnels.{Tunnel, new_tunnel, Ground, Recovering}
 use Rattle.end_model.specs.Links.{with_link, looks_of}
 use Rattle.end_model.specs.End.{End, with_look, with_looks, new_place}
 use Rattle.step_laws.specs.Callers.{wanted_by_lac}
-use Rattle.step_laws.specs.Moves.{with_tunnel, Does, Chain}
-use Rattle.step_laws.specs.Steps.{AreKept, StepsAreChains}
+use Rattle.step_laws.specs.Moves.{with_tunnel, Does, Chain, finished_of, unfinished_of, calls_back}
+use Rattle.step_laws.specs.Steps.{AreKept, StepsAreChains, IsOfNoStart}
 use Rattle.step_laws.proofs.States.{requested_state, replied_state, rung_state, connected_state, up_state, request_is_lac, connection_is_lac, reply_is_lns, connected_is_lns}
-use Rattle.step_laws.proofs.Lists.{found_among, none_not_among, ascends_look, ascends_looks, killed_same, killed_other}
+use Rattle.step_laws.proofs.Lists.{found_among, none_not_among, ascends_look, ascends_looks, killed_same, killed_other, branch, ascends_placed}
 use Rattle.step_laws.proofs.Turns.{learnt_peer}
 use Rattle.step_laws.specs.Looks.{look_by, look_in_state, look_of, LinkFits, IsLive, LooksAreTrue, LooksBeginTrue, LooksStayTrue}
-
--- ---- draws
-
-drawn_next : (s : Space) (k : ℕ) → takes_id s ≡ Ok k → (after_id s).next ≡ k + 1
-drawn_next s k h = ap (λ (d : Space). d.next) (next_is s k h)
-
--- ---- tables that ascend
-
-pub record AreOrdered (e : End) : Type 0 where
-  pub tunnels : Ascends e.tunnels
-  pub calls : (i : ℕ) (t : Tunnel) → at e.tunnels i ≡ Some t → Ascends t.calls
-  pub places : Ascends e.calls
-
--- ---- links
-
--- a LAC's call has no link, whatever its state
-lac_has_none : (r : Role) (s : CallState) (link : Option Link) → r ≡ Lac → LinkFits r s link → link ≡ None
-lac_has_none Lac s link lac h = h
-lac_has_none Lns s link lac h = absurd cc
-
-lac_fits : (r : Role) (s q : CallState) (link : Option Link) → r ≡ Lac → LinkFits r s link → LinkFits r q link
-lac_fits Lac s q link lac h = h
-lac_fits Lns s q link lac h = absurd cc
-
-rung_fits : (r : Role) (who : List ℕ) (moment : ℕ) → r ≡ Lac → LinkFits r (rung r who moment).state (rung r who moment).link
-unfolding rung advanced
-rung_fits Lac who moment lac = refl
-rung_fits Lns who moment lac = absurd cc
-
-asked_fits : (remote moment : ℕ) → LinkFits Lns (asked_for Lns remote moment).state (asked_for Lns remote moment).link
-unfolding asked_for advanced call_row
-asked_fits remote moment = refl
-
--- one that has a link has another
-linked_fits : (r : Role) (s : CallState) (link : Option Link) (l m : Link) → link ≡ Some l → s ≡ Established → LinkFits r s link → LinkFits r s (Some m)
-linked_fits Lac s link l m is state h = absurd (none-some l (sym h ∙ is))
-linked_fits Lns s link l m is state h = rw state refl
-
-connected_fits : (r : Role) (s : CallState) (m : Link) → r ≡ Lns → s ≡ Established → LinkFits r s (Some m)
-connected_fits Lac s m lns state = absurd cc
-connected_fits Lns s m lns state = rw state refl
-
--- a place that is put where it is
-same_place : (places : List (ℕ × CallPlace)) (s : ℕ) (p : CallPlace) → at places s ≡ Some p → (q : ℕ) → at places q ≡ at (put places s p) q
-same_place places s p is q = ⊎_elim
-    (λ e. rw e (is ∙ sym (at_new places s p)))
-    (λ o. sym (at_other places s p q o))
-    (same_or_not q s)
-
--- what is seen of a call where frames of the network begin to pass, or is as before
-opened_place : (places : List (ℕ × CallPlace)) (s i peer : ℕ) (was passes opens : Bool) → opens ≡ (not was && passes) → (was ≡ true → passes ≡ true)
-    → at places s ≡ Some (record (new_place i) { look = look_by was i peer }) → (q : ℕ)
-    → at (with_looks (looks_of opens s) places) q ≡ at (put places s (record (new_place i) { look = look_by passes i peer })) q
-unfolding with_looks with_look
-opened_place places s i peer true true opens told stays is q = rw told (same_place places s _ is q)
-opened_place places s i peer true false opens told stays is q = absurd (true≢false (sym (stays refl)))
-opened_place places s i peer false false opens told stays is q = rw told (same_place places s _ is q)
-opened_place places s i peer false true opens told stays is q = rw (told, is) refl
+use Rattle.std.specs.List.{AllByRecursion}
+use Rattle.id_source.specs.declared.IdError.{IdError}
+use Rattle.session_book.specs.declared.record.BookCall.{BookCall}
+use Rattle.end_model.specs.Events.{with_calls}
+use Rattle.end_model.specs.Recovering.{is_unfinished}
+use Rattle.step_laws.proofs.Shutting.{ended, without_first}
+use Rattle.step_laws.proofs.Finished.{at_later, at_first, without_later, filter_over, left_finished, own_entries, ascends_finished}
+use Rattle.step_laws.proofs.Ups.{steps_are_no_starts}
+pub use Rattle.step_laws.proofs.LookParts.{drawn_next, AreOrdered, lac_has_none, lac_fits, rung_fits, asked_fits, linked_fits, connected_fits, same_place, opened_place}
 
 -- ---- one tunnel is put, and one place
 
@@ -111,24 +59,24 @@ module _ (x : End) (ok : LooksAreTrue x) where
       (found_put x.tunnels i u j v (rw (← tunnels) f)))
 
   -- a tunnel goes on with the calls that it has
-  calls_stay : (i : ℕ) (t : Tunnel) (c : Control) (ls : List Letter) → at x.tunnels i ≡ Some t → c.peer ≡ t.control.peer
-      → LooksAreTrue (with_tunnel x i (record t { control = c; letters = ls }))
-  calls_stay i t c ls there peer = record {
+  calls_stay : (i : ℕ) (t : Tunnel) (c : Control) (ls : List Letter) (q : Option Recovering) → at x.tunnels i ≡ Some t → c.peer ≡ t.control.peer
+      → LooksAreTrue (with_tunnel x i (record t { control = c; letters = ls; recovery = q }))
+  calls_stay i t c ls q there peer = record {
     live = λ s p f. let l = ok.live s p f in ⊎_elim
         (λ (a : p.tunnel ≡ i). (let k = same_tunnel p.tunnel i l.tunnel t a l.there there in
-        record { tunnel = record t { control = c; letters = ls }; there = rw a (at_new x.tunnels i (record t { control = c; letters = ls })); call = l.call; live = rw (← k) l.live }))
-        (λ o. record { tunnel = l.tunnel; there = at_other x.tunnels i (record t { control = c; letters = ls }) p.tunnel o ∙ l.there; call = l.call; live = l.live })
+        record { tunnel = record t { control = c; letters = ls; recovery = q }; there = rw a (at_new x.tunnels i (record t { control = c; letters = ls; recovery = q })); call = l.call; live = rw (← k) l.live }))
+        (λ o. record { tunnel = l.tunnel; there = at_other x.tunnels i (record t { control = c; letters = ls; recovery = q }) p.tunnel o ∙ l.there; call = l.call; live = l.live })
         (same_or_not p.tunnel i);
     seen = λ j u f s d g. ⊎_elim
-        (λ (a : (j ≡ i) × (record t { control = c; letters = ls } ≡ u)). rw (a.0, ← a.1, peer) (ok.seen i t there s d (rw (← a.1) at g)))
+        (λ (a : (j ≡ i) × (record t { control = c; letters = ls; recovery = q } ≡ u)). rw (a.0, ← a.1, peer) (ok.seen i t there s d (rw (← a.1) at g)))
         (λ a. ok.seen j u a.1 s d g)
-        (found_put x.tunnels i (record t { control = c; letters = ls }) j u f);
-    links = links_put (with_tunnel x i (record t { control = c; letters = ls })) i (record t { control = c; letters = ls }) refl refl
+        (found_put x.tunnels i (record t { control = c; letters = ls; recovery = q }) j u f);
+    links = links_put (with_tunnel x i (record t { control = c; letters = ls; recovery = q })) i (record t { control = c; letters = ls; recovery = q }) refl refl
         (λ s d g. ok.links i t there s d g);
     tunnels = λ j u f. ⊎_elim
-        (λ (a : (j ≡ i) × (record t { control = c; letters = ls } ≡ u)). rw a.0 (ok.tunnels i t there))
+        (λ (a : (j ≡ i) × (record t { control = c; letters = ls; recovery = q } ≡ u)). rw a.0 (ok.tunnels i t there))
         (λ a. ok.tunnels j u a.1)
-        (found_put x.tunnels i (record t { control = c; letters = ls }) j u f);
+        (found_put x.tunnels i (record t { control = c; letters = ls; recovery = q }) j u f);
     sessions = ok.sessions;
   }
 
@@ -367,108 +315,201 @@ module _ (x : End) (ok : LooksAreTrue x) where
       sessions = λ q p f. ok.sessions q p (left_place order i t there q p f (at t.calls q) refl).1;
     }
 
+-- ---- calls of a tunnel end, one after the other
+
+-- each lives, once those before it have ended
+abbrev AreLive : List ℕ → List (ℕ × Call) → Type 0
+AreLive [] calls = Unit {0}
+AreLive (s ∷ ss) calls = (c : Call) × (at calls s ≡ Some c) × AreLive ss (without calls s)
+
+live_behind : (e : ℕ × Call) (ss : List ℕ) (es : List (ℕ × Call)) → AllByRecursion (λ s. e.0 < s) ss → AreLive ss es → AreLive ss (e ∷ es)
+live_behind e [] es over h = tt
+live_behind e (s ∷ ss) es over h = (
+  h.0,
+  at_later e es s over.0 ∙ h.1,
+  subst (AreLive ss) (sym (without_later e es s over.0)) (live_behind e ss (without es s) over.1 h.2),
+)
+
+live_filter : (p : ℕ → Bool) (es : List (ℕ × Call)) → Ascends es → AreLive (filter p (ids_of es)) es
+unfolding Ascends
+live_filter p [] sorted = tt
+live_filter p (e ∷ es) sorted =
+    let rest = live_filter p es sorted.1 in
+    branch (λ (ss : List ℕ). AreLive ss (e ∷ es)) (p e.0) _ _
+    (λ yes. (e.1, at_first e es, subst (AreLive (filter p (ids_of es))) (sym (without_first e es)) rest))
+    (λ no. live_behind e (filter p (ids_of es)) es (filter_over p e.0 es sorted.0) rest)
+
+-- with these calls left
+abbrev ended_end : List ℕ → End → ℕ → Tunnel → List (ℕ × Call) → End
+ended_end ss x i t calls = record x { tunnels = put x.tunnels i (record t { calls = calls }); calls = with_looks (map cell.Kill ss) x.calls }
+
+abbrev FrozenSo : End → ℕ → Tunnel → List (ℕ × Call) → Type 0
+FrozenSo x i t calls = LooksAreTrue (ended_end (unfinished_of t.calls) x i t calls)
+
+calls_end : (ss : List ℕ) (x : End) → LooksAreTrue x → AreOrdered x → (i : ℕ) (t : Tunnel) → at x.tunnels i ≡ Some t → AreLive ss t.calls
+    → LooksAreTrue (ended_end ss x i t (with_calls (map ended ss) t.calls))
+unfolding with_calls with_looks with_look
+calls_end [] x ok order i t there live = subst (λ ts. LooksAreTrue (record x { tunnels = ts })) (sym (put-again i t x.tunnels order.tunnels there)) ok
+calls_end (s ∷ ss) x ok order i t there live =
+    let u = record t { calls = without t.calls s } in
+    let y : End = record x { tunnels = put x.tunnels i u; calls = without x.calls s } in
+    let ends = call_gone x ok order y i t t.control t.letters s live.0 (record {
+      tunnels = refl;
+      there = there;
+      peer = refl;
+      live = live.1;
+      calls = refl;
+      ids = refl;
+      role = refl;
+      drawn = refl;
+    }) in
+    let ordered : AreOrdered y = record {
+      tunnels = ascends-put i u x.tunnels order.tunnels;
+      calls = λ j v f. ⊎_elim
+          (λ (a : (j ≡ i) × (u ≡ v)). subst (λ (w : Tunnel). Ascends w.calls) a.1 (ascends-without s t.calls (order.calls i t there)))
+          (λ a. order.calls j v a.1)
+          (found_put x.tunnels i u j v f);
+      places = ascends-without s x.calls order.places;
+    } in
+    subst (λ ts. LooksAreTrue (record y { tunnels = ts; calls = with_looks (map cell.Kill ss) y.calls })) (put-put x.tunnels i u _)
+    (calls_end ss y ends ordered i u (at_new x.tunnels i u) live.2)
+
+-- ---- ids that are drawn
+
+pub next_risen : (s : Space) → s.next ≤ (after_id s).next
+next_risen s = by (takes_id s) refl
+  where
+    by : (r : Result ℕ IdError) → takes_id s ≡ r → s.next ≤ (with_taken r s).next
+    by (Ok n) is = let first = (draw_is s n is).0 in omega (arith, first)
+    by (Err x) is = omega arith
+
+-- a tunnel is frozen, once its other calls have ended
+froze_looks : (x : End) → LooksAreTrue x → AreOrdered x → (i : ℕ) (t : Tunnel) → at x.tunnels i ≡ Some t → (c : Control) (q : Recovering) → c.peer ≡ t.control.peer
+    → FrozenSo x i t (finished_of t.calls)
+    → LooksAreTrue (record (with_tunnel x i (record t { control = c; calls = finished_of t.calls; recovery = Some q })) {
+      tunnel_ids = after_id x.tunnel_ids;
+      recovery_ids = after_id x.recovery_ids;
+      calls = with_looks (map cell.Kill (unfinished_of t.calls)) x.calls;
+    })
+froze_looks x ok order i t there c q peer ended_so =
+    let u = record t { calls = finished_of t.calls } in
+    let y = ended_end (unfinished_of t.calls) x i t (finished_of t.calls) in
+    let z = calls_stay y ended_so i u c t.letters (Some q) (at_new x.tunnels i u) peer in
+    let same : with_tunnel y i (record u { control = c; recovery = Some q }) ≡ record y { tunnels = put x.tunnels i (record u { control = c; recovery = Some q }) } =
+    ap (λ ts. record y { tunnels = ts }) (put-put x.tunnels i u (record u { control = c; recovery = Some q })) in
+    let w = subst LooksAreTrue same z in
+    let rises = next_risen x.tunnel_ids in
+    record {
+      live = λ s p f. let l = w.live s p f in record { tunnel = l.tunnel; there = l.there; call = l.call; live = l.live };
+      seen = w.seen;
+      links = w.links;
+      tunnels = λ j v f. let lt = w.tunnels j v f in omega (arith, rises, lt);
+      sessions = w.sessions;
+    }
+
+module _ (x : End) (ok : LooksAreTrue x) where
   stays : (y : End) → y ≡ x → LooksAreTrue y
   stays y same = subst LooksAreTrue (sym same) ok
 
-  does_looks : AreOrdered x → (moment : ℕ) (ev : Event) (m : Move) (y : End) → Does x moment ev m y → LooksAreTrue y
+  does_looks : AreOrdered x → (moment : ℕ) (ev : Event) (m : Move) (y : End) → IsOfNoStart m → Does x moment ev m y → LooksAreTrue y
   unfolding with_look advanced
-  does_looks order moment ev (move.Opened m) y h =
-      tunnel_born y m.tunnel _ _ (draw_is x.tunnel_ids m.tunnel h.drawn).0 (ap (λ (e : End). e.tunnels) h.after) (ap (λ (e : End). e.calls) h.after)
+  does_looks order moment ev (move.Opened m) y so h =
+      tunnel_born x ok y m.tunnel _ _ (draw_is x.tunnel_ids m.tunnel h.drawn).0 (ap (λ (e : End). e.tunnels) h.after) (ap (λ (e : End). e.calls) h.after)
       (ap (λ (e : End). e.tunnel_ids.next) h.after ∙ drawn_next x.tunnel_ids m.tunnel h.drawn) (ap (λ (e : End). e.session_ids) h.after) (ap (λ (e : End). e.role) h.after)
-  does_looks order moment ev (move.Accepted m) y h =
-      tunnel_born y m.tunnel _ _ (draw_is x.tunnel_ids m.tunnel h.drawn).0 (ap (λ (e : End). e.tunnels) h.after) (ap (λ (e : End). e.calls) h.after)
+  does_looks order moment ev (move.Accepted m) y so h =
+      tunnel_born x ok y m.tunnel _ _ (draw_is x.tunnel_ids m.tunnel h.drawn).0 (ap (λ (e : End). e.tunnels) h.after) (ap (λ (e : End). e.calls) h.after)
       (ap (λ (e : End). e.tunnel_ids.next) h.after ∙ drawn_next x.tunnel_ids m.tunnel h.drawn) (ap (λ (e : End). e.session_ids) h.after) (ap (λ (e : End). e.role) h.after)
-  does_looks order moment ev (move.Connected m) y h =
-      subst LooksAreTrue (sym h.after) (calls_stay m.tunnel h.tunnel _ _ h.there (learnt_peer m.window (record h.tunnel.control { remote = m.remote; flags = m.flags; state = tunnel.Established })))
-  does_looks order moment ev (move.Confirmed m) y h = subst LooksAreTrue (sym h.after) (calls_stay m.tunnel h.tunnel _ _ h.there refl)
-  does_looks order moment ev (move.TookPlain m) y h = subst LooksAreTrue (sym h.after) (calls_stay m.tunnel h.tunnel _ _ h.there refl)
-  does_looks order moment ev (move.Added m) y h =
+  does_looks order moment ev (move.Connected m) y so h =
+      subst LooksAreTrue (sym h.after) (calls_stay x ok m.tunnel h.tunnel _ _ _ h.there (learnt_peer m.window (record h.tunnel.control { remote = m.remote; flags = m.flags; state = tunnel.Established })))
+  does_looks order moment ev (move.Confirmed m) y so h = subst LooksAreTrue (sym h.after) (calls_stay x ok m.tunnel h.tunnel _ _ _ h.there refl)
+  does_looks order moment ev (move.TookPlain m) y so h = subst LooksAreTrue (sym h.after) (calls_stay x ok m.tunnel h.tunnel _ _ _ h.there refl)
+  does_looks order moment ev (move.Added m) y so h =
       let fresh = (draw_is x.session_ids m.session h.drawn).0 in
       let next : y.session_ids.next ≡ m.session + 1 = ap (λ (e : End). e.session_ids.next) h.after ∙ drawn_next x.session_ids m.session h.drawn in
       let lac = wanted_by_lac x ev h.tunnel.control.peer h.wants in
-      call_put y m.tunnel h.tunnel _ _ m.session (rung x.role m.subscriber moment) (record {
+      call_put x ok y m.tunnel h.tunnel _ _ m.session (rung x.role m.subscriber moment) (record {
         tunnels = ap (λ (e : End). e.tunnels) h.after;
         there = h.there;
         peer = refl;
-        only = λ j u f o d g. no_tunnel m.session fresh j u f d g;
-        calls = same_places y.calls _ (ap (λ (e : End). e.calls) h.after ∙ rw (rung_state x.role m.subscriber moment lac) refl);
+        only = λ j u f o d g. no_tunnel x ok m.session fresh j u f d g;
+        calls = same_places x ok y.calls _ (ap (λ (e : End). e.calls) h.after ∙ rw (rung_state x.role m.subscriber moment lac) refl);
         ids = ap (λ (e : End). e.tunnel_ids) h.after;
         role = ap (λ (e : End). e.role) h.after;
         fits = rung_fits x.role m.subscriber moment lac;
         drawn = omega (arith, next);
         rises = omega (arith, next, fresh);
       })
-  does_looks order moment ev (move.Replied m) y h =
+  does_looks order moment ev (move.Replied m) y so h =
       let fresh = (draw_is x.session_ids m.session h.drawn).0 in
       let next : y.session_ids.next ≡ m.session + 1 = ap (λ (e : End). e.session_ids.next) h.after ∙ drawn_next x.session_ids m.session h.drawn in
-      call_put y m.tunnel h.tunnel _ _ m.session (asked_for x.role m.remote moment) (record {
+      call_put x ok y m.tunnel h.tunnel _ _ m.session (asked_for x.role m.remote moment) (record {
         tunnels = ap (λ (e : End). e.tunnels) h.after;
         there = h.there;
         peer = refl;
-        only = λ j u f o d g. no_tunnel m.session fresh j u f d g;
-        calls = same_places y.calls _ (ap (λ (e : End). e.calls) h.after ∙ rw (replied_state x.role m.remote moment h.row) refl);
+        only = λ j u f o d g. no_tunnel x ok m.session fresh j u f d g;
+        calls = same_places x ok y.calls _ (ap (λ (e : End). e.calls) h.after ∙ rw (replied_state x.role m.remote moment h.row) refl);
         ids = ap (λ (e : End). e.tunnel_ids) h.after;
         role = ap (λ (e : End). e.role) h.after;
         fits = rw (reply_is_lns x.role h.row) (asked_fits m.remote moment);
         drawn = omega (arith, next);
         rises = omega (arith, next, fresh);
       })
-  does_looks order moment ev (move.Requested m) y h =
+  does_looks order moment ev (move.Requested m) y so h =
       let seen = ok.seen m.tunnel h.tunnel h.there m.session h.call h.waits in
       let lt = ok.sessions m.session _ seen in
       let ids : y.session_ids ≡ x.session_ids = ap (λ (e : End). e.session_ids) h.after in
-      call_put y m.tunnel h.tunnel _ _ m.session (advanced x.role call_event.TunnelOpen moment h.call) (record {
+      call_put x ok y m.tunnel h.tunnel _ _ m.session (advanced x.role call_event.TunnelOpen moment h.call) (record {
         tunnels = ap (λ (e : End). e.tunnels) h.after;
         there = h.there;
         peer = refl;
-        only = one_tunnel m.tunnel h.tunnel h.there m.session h.call h.waits;
-        calls = same_places y.calls _ (ap (λ (e : End). e.calls) h.after ∙ rw (seen, (requested_state x.role h.call.state h.row).1) refl);
+        only = one_tunnel x ok m.tunnel h.tunnel h.there m.session h.call h.waits;
+        calls = same_places x ok y.calls _ (ap (λ (e : End). e.calls) h.after ∙ rw (seen, (requested_state x.role h.call.state h.row).1) refl);
         ids = ap (λ (e : End). e.tunnel_ids) h.after;
         role = ap (λ (e : End). e.role) h.after;
         fits = lac_fits x.role h.call.state _ h.call.link (request_is_lac x.role h.call.state h.row) (ok.links m.tunnel h.tunnel h.there m.session h.call h.waits);
         drawn = rw ids lt;
         rises = rw ids (omega arith);
       })
-  does_looks order moment ev (move.FirstUp m) y h =
+  does_looks order moment ev (move.FirstUp m) y so h =
       let seen = ok.seen m.tunnel h.tunnel h.there m.session h.call h.asked in
       let lt = ok.sessions m.session _ seen in
       let ids : y.session_ids ≡ x.session_ids = ap (λ (e : End). e.session_ids) h.after in
       let state = connected_state x.role h.call.state h.row in
       let lac = connection_is_lac x.role h.call.state h.row in
       let none = lac_has_none x.role h.call.state h.call.link lac (ok.links m.tunnel h.tunnel h.there m.session h.call h.asked) in
-      let bound : at x.calls m.session ≡ Some (record (new_place m.tunnel) { look = look.Bound m.tunnel h.tunnel.control.peer }) =
-      seen ∙ ap (λ q. Some (record (new_place m.tunnel) { look = look_in_state q h.call.link m.tunnel h.tunnel.control.peer })) state.0 in
-      call_put y m.tunnel h.tunnel _ _ m.session (advanced x.role call_event.IcrpAcc moment (record h.call { remote = m.remote })) (record {
+      let bound : at x.calls m.session ≡ Some (record { tunnel = m.tunnel; look = look.Bound m.tunnel h.tunnel.control.peer }) =
+      seen ∙ ap (λ q. Some (record { tunnel = m.tunnel; look = look_in_state q h.call.link m.tunnel h.tunnel.control.peer })) state.0 in
+      call_put x ok y m.tunnel h.tunnel _ _ m.session (advanced x.role call_event.IcrpAcc moment (record h.call { remote = m.remote })) (record {
         tunnels = ap (λ (e : End). e.tunnels) h.after;
         there = h.there;
         peer = refl;
-        only = one_tunnel m.tunnel h.tunnel h.there m.session h.call h.asked;
-        calls = same_places y.calls _ (ap (λ (e : End). e.calls) h.after ∙ rw (bound, state.1, none) refl);
+        only = one_tunnel x ok m.tunnel h.tunnel h.there m.session h.call h.asked;
+        calls = same_places x ok y.calls _ (ap (λ (e : End). e.calls) h.after ∙ rw (bound, state.1, none) refl);
         ids = ap (λ (e : End). e.tunnel_ids) h.after;
         role = ap (λ (e : End). e.role) h.after;
         fits = lac_fits x.role h.call.state _ h.call.link lac (ok.links m.tunnel h.tunnel h.there m.session h.call h.asked);
         drawn = rw ids lt;
         rises = rw ids (omega arith);
       })
-  does_looks order moment ev (move.SecondUp m) y h =
+  does_looks order moment ev (move.SecondUp m) y so h =
       let seen = ok.seen m.tunnel h.tunnel h.there m.session h.call h.made in
       let lt = ok.sessions m.session _ seen in
       let ids : y.session_ids ≡ x.session_ids = ap (λ (e : End). e.session_ids) h.after in
       let state = up_state _ h.row in
-      call_put y m.tunnel h.tunnel _ _ m.session (with_link (new_link (record { moment = moment; block = h.block })) (with_numbers m.sequenced (advanced x.role call_event.IccnAcc moment h.call))) (record {
+      call_put x ok y m.tunnel h.tunnel _ _ m.session (with_link (new_link (record { moment = moment; block = h.block })) (with_numbers m.sequenced (advanced x.role call_event.IccnAcc moment h.call))) (record {
         tunnels = ap (λ (e : End). e.tunnels) h.after;
         there = h.there;
         peer = refl;
-        only = one_tunnel m.tunnel h.tunnel h.there m.session h.call h.made;
-        calls = same_places y.calls _ (ap (λ (e : End). e.calls) h.after ∙ rw (seen, state) refl);
+        only = one_tunnel x ok m.tunnel h.tunnel h.there m.session h.call h.made;
+        calls = same_places x ok y.calls _ (ap (λ (e : End). e.calls) h.after ∙ rw (seen, state) refl);
         ids = ap (λ (e : End). e.tunnel_ids) h.after;
         role = ap (λ (e : End). e.role) h.after;
         fits = connected_fits x.role _ _ (connected_is_lns x.role h.call.state h.row) state;
         drawn = rw ids lt;
         rises = rw ids (omega arith);
       })
-  does_looks order moment ev (move.EndTold m) y h =
-      call_gone order y m.tunnel h.tunnel _ _ m.session h.call (record {
+  does_looks order moment ev (move.EndTold m) y so h =
+      call_gone x ok order y m.tunnel h.tunnel _ _ m.session h.call (record {
         tunnels = ap (λ (e : End). e.tunnels) h.after;
         there = h.there;
         peer = refl;
@@ -478,8 +519,8 @@ module _ (x : End) (ok : LooksAreTrue x) where
         role = ap (λ (e : End). e.role) h.after;
         drawn = ap (λ (e : End). e.session_ids) h.after;
       })
-  does_looks order moment ev (move.EndHeard m) y h =
-      call_gone order y m.tunnel h.tunnel _ _ m.session h.call (record {
+  does_looks order moment ev (move.EndHeard m) y so h =
+      call_gone x ok order y m.tunnel h.tunnel _ _ m.session h.call (record {
         tunnels = ap (λ (e : End). e.tunnels) h.after;
         there = h.there;
         peer = refl;
@@ -489,8 +530,8 @@ module _ (x : End) (ok : LooksAreTrue x) where
         role = ap (λ (e : End). e.role) h.after;
         drawn = ap (λ (e : End). e.session_ids) h.after;
       })
-  does_looks order moment ev (move.EndSilent m) y h =
-      call_gone order y m.tunnel h.tunnel _ _ m.session h.call (record {
+  does_looks order moment ev (move.EndSilent m) y so h =
+      call_gone x ok order y m.tunnel h.tunnel _ _ m.session h.call (record {
         tunnels = ap (λ (e : End). e.tunnels) h.after;
         there = h.there;
         peer = refl;
@@ -500,18 +541,18 @@ module _ (x : End) (ok : LooksAreTrue x) where
         role = ap (λ (e : End). e.role) h.after;
         drawn = ap (λ (e : End). e.session_ids) h.after;
       })
-  does_looks order moment ev (move.Closed m) y h = subst LooksAreTrue (sym h.after) (tunnel_shut order m.tunnel h.tunnel h.there _ _)
-  does_looks order moment ev (move.Rejected m) y h = subst LooksAreTrue (sym h.after) (tunnel_shut order m.tunnel h.tunnel h.there _ _)
-  does_looks order moment ev (move.ClosedBy m) y h = subst LooksAreTrue (sym h.after) (tunnel_shut order m.tunnel h.tunnel h.there _ _)
-  does_looks order moment ev (move.Cleared i booked) y h = subst LooksAreTrue (sym h.after) (tunnel_gone order i h.tunnel h.there)
-  does_looks order moment ev (move.Greeted m) y h = subst LooksAreTrue (sym h.after) (calls_stay m.tunnel h.tunnel _ _ h.there refl)
-  does_looks order moment ev (move.Refused m) y h = subst LooksAreTrue (sym h.after) (calls_stay m.tunnel h.tunnel _ _ h.there refl)
-  does_looks order moment ev (move.Repeated m) y h = subst LooksAreTrue (sym h.after) (calls_stay m.tunnel h.tunnel _ _ h.there refl)
-  does_looks order moment ev (move.NrRead m) y h = subst LooksAreTrue (sym h.after) (calls_stay m.tunnel h.tunnel _ _ h.there refl)
-  does_looks order moment ev (move.LetGo m) y h = subst LooksAreTrue (sym h.after) (calls_stay m.tunnel h.tunnel _ _ h.there refl)
-  does_looks order moment ev (move.Declined m) y h = stays y h.after
-  does_looks order moment ev (move.Quiet i) y h = stays y h.after
-  does_looks order moment ev (move.Negotiated m) y h =
+  does_looks order moment ev (move.Closed m) y so h = subst LooksAreTrue (sym h.after) (tunnel_shut x ok order m.tunnel h.tunnel h.there _ _)
+  does_looks order moment ev (move.Rejected m) y so h = subst LooksAreTrue (sym h.after) (tunnel_shut x ok order m.tunnel h.tunnel h.there _ _)
+  does_looks order moment ev (move.ClosedBy m) y so h = subst LooksAreTrue (sym h.after) (tunnel_shut x ok order m.tunnel h.tunnel h.there _ _)
+  does_looks order moment ev (move.Cleared i booked) y so h = subst LooksAreTrue (sym h.after) (tunnel_gone x ok order i h.tunnel h.there)
+  does_looks order moment ev (move.Greeted m) y so h = subst LooksAreTrue (sym h.after) (calls_stay x ok m.tunnel h.tunnel _ _ _ h.there refl)
+  does_looks order moment ev (move.Refused m) y so h = subst LooksAreTrue (sym h.after) (calls_stay x ok m.tunnel h.tunnel _ _ _ h.there refl)
+  does_looks order moment ev (move.Repeated m) y so h = subst LooksAreTrue (sym h.after) (calls_stay x ok m.tunnel h.tunnel _ _ _ h.there refl)
+  does_looks order moment ev (move.NrRead m) y so h = subst LooksAreTrue (sym h.after) (calls_stay x ok m.tunnel h.tunnel _ _ _ h.there refl)
+  does_looks order moment ev (move.LetGo m) y so h = subst LooksAreTrue (sym h.after) (calls_stay x ok m.tunnel h.tunnel _ _ _ h.there refl)
+  does_looks order moment ev (move.Declined m) y so h = stays y h.after
+  does_looks order moment ev (move.Quiet i) y so h = stays y h.after
+  does_looks order moment ev (move.Negotiated m) y so h =
       let seen = ok.seen m.tunnel h.tunnel h.there m.session h.call h.live in
       let lt = ok.sessions m.session _ seen in
       let ids : y.session_ids ≡ x.session_ids = ap (λ (e : End). e.session_ids) h.after in
@@ -521,12 +562,12 @@ module _ (x : End) (ok : LooksAreTrue x) where
       let seen_so : at x.calls m.session ≡ Some (record (new_place m.tunnel) { look = look_by h.calls.link.network m.tunnel h.tunnel.control.peer }) =
       seen ∙ rw (state, h.calls.has) refl in
       let places = ap (λ (e : End). e.calls) h.after in
-      call_put y m.tunnel h.tunnel _ _ m.session (with_link v.link h.call) (record {
+      call_put x ok y m.tunnel h.tunnel _ _ m.session (with_link v.link h.call) (record {
         tunnels = ap (λ (e : End). e.tunnels) h.after;
         there = h.there;
         peer = refl;
-        only = one_tunnel m.tunnel h.tunnel h.there m.session h.call h.live;
-        calls = λ q. same_places y.calls _ places q
+        only = one_tunnel x ok m.tunnel h.tunnel h.there m.session h.call h.live;
+        calls = λ q. same_places x ok y.calls _ places q
             ∙ (opened_place x.calls m.session m.tunnel h.tunnel.control.peer h.calls.link.network v.link.network v.opens tells.told tells.stays seen_so q ∙ rw state refl);
         ids = ap (λ (e : End). e.tunnel_ids) h.after;
         role = ap (λ (e : End). e.role) h.after;
@@ -535,24 +576,36 @@ module _ (x : End) (ok : LooksAreTrue x) where
         drawn = rw ids lt;
         rises = rw ids (omega arith);
       })
-  does_looks order moment ev (move.Counted m) y h =
+  does_looks order moment ev (move.Counted m) y so h =
       let seen = ok.seen m.tunnel h.tunnel h.there m.session h.call h.live in
       let lt = ok.sessions m.session _ seen in
       let ids : y.session_ids ≡ x.session_ids = ap (λ (e : End). e.session_ids) h.after in
-      call_put y m.tunnel h.tunnel _ _ m.session (counted h.call) (record {
+      call_put x ok y m.tunnel h.tunnel _ _ m.session (counted h.call) (record {
         tunnels = ap (λ (e : End). e.tunnels) h.after;
         there = h.there;
         peer = refl;
-        only = one_tunnel m.tunnel h.tunnel h.there m.session h.call h.live;
-        calls = λ q. same_places y.calls x.calls (ap (λ (e : End). e.calls) h.after) q ∙ same_place x.calls m.session _ seen q;
+        only = one_tunnel x ok m.tunnel h.tunnel h.there m.session h.call h.live;
+        calls = λ q. same_places x ok y.calls x.calls (ap (λ (e : End). e.calls) h.after) q ∙ same_place x.calls m.session _ seen q;
         ids = ap (λ (e : End). e.tunnel_ids) h.after;
         role = ap (λ (e : End). e.role) h.after;
         fits = ok.links m.tunnel h.tunnel h.there m.session h.call h.live;
         drawn = rw ids lt;
         rises = rw ids (omega arith);
       })
-  does_looks order moment ev (move.FrameSent m) y h = stays y h.after
-  does_looks order moment ev (move.FrameUp m) y h = stays y h.after
+  does_looks order moment ev (move.FrameSent m) y so h = stays y h.after
+  does_looks order moment ev (move.FrameUp m) y so h = stays y h.after
+  does_looks order moment ev (move.Restored m) y so h = absurd so
+  does_looks order moment ev (move.Forgot m) y so h = absurd so
+  does_looks order moment ev (move.Froze m) y so h =
+      let left = left_finished h.tunnel.calls h.tunnel.calls (order.calls m.tunnel h.tunnel h.there) (own_entries h.tunnel.calls (order.calls m.tunnel h.tunnel h.there)) in
+      subst LooksAreTrue (sym h.after) (froze_looks x ok order m.tunnel h.tunnel h.there _ h.recovery refl
+      (subst (λ cs. FrozenSo x m.tunnel h.tunnel cs) left (calls_end (unfinished_of h.tunnel.calls) x ok order m.tunnel h.tunnel h.there
+      (live_filter (λ s. is_unfinished (at h.tunnel.calls s)) h.tunnel.calls (order.calls m.tunnel h.tunnel h.there)))))
+  does_looks order moment ev (move.ResetAttempting m) y so h = subst LooksAreTrue (sym h.after) (calls_stay x ok m.tunnel h.tunnel _ _ _ h.there refl)
+  does_looks order moment ev (move.ResetAnswering m) y so h = subst LooksAreTrue (sym h.after) (calls_stay x ok m.tunnel h.tunnel _ _ _ h.there refl)
+  does_looks order moment ev (move.RecoveryWentOn i) y so h = subst LooksAreTrue (sym h.after) (calls_stay x ok i h.tunnel _ _ _ h.there refl)
+  does_looks order moment ev (move.RecoveryEnded i) y so h = subst LooksAreTrue (sym h.after) (calls_stay x ok i h.tunnel _ _ _ h.there refl)
+  does_looks order moment ev (move.Ignored i) y so h = subst LooksAreTrue (sym h.after) (calls_stay x ok i h.tunnel _ _ _ h.there refl)
 
 -- ---- what ascends still does
 
@@ -577,6 +630,18 @@ module _ (x : End) (ok : AreOrdered x) where
   goes_on y i t c ls there is =
       tunnel_put y i (record t { control = c; letters = ls }) (ok.calls i t there) (ap (λ (e : End). e.tunnels) is)
       (looks_stay_so y (ap (λ (e : End). e.calls) is))
+
+  -- with another recovery tunnel
+  line_on : (y : End) (i : ℕ) (t : Tunnel) (c : Control) (ls : List Letter) (q : Option Recovering) → at x.tunnels i ≡ Some t
+      → y ≡ with_tunnel x i (record t { control = c; letters = ls; recovery = q }) → AreOrdered y
+  line_on y i t c ls q there is =
+      tunnel_put y i (record t { control = c; letters = ls; recovery = q }) (ok.calls i t there) (ap (λ (e : End). e.tunnels) is)
+      (looks_stay_so y (ap (λ (e : End). e.calls) is))
+
+  -- calls that come back
+  ascends_back : (r : Role) (g : Ground) (cs : List BookCall) → Ascends (calls_back r g cs)
+  ascends_back r g [] = ascends-empty [] refl
+  ascends_back r g (c ∷ cs) = ascends-put c.local _ (calls_back r g cs) (ascends_back r g cs)
 
   pub does_order : (moment : ℕ) (ev : Event) (m : Move) (y : End) → Does x moment ev m y → AreOrdered y
   does_order moment ev (move.Opened m) y h =
@@ -641,11 +706,23 @@ module _ (x : End) (ok : AreOrdered x) where
       (looks_stay_so y (ap (λ (e : End). e.calls) h.after))
   does_order moment ev (move.FrameSent m) y h = subst AreOrdered (sym h.after) ok
   does_order moment ev (move.FrameUp m) y h = subst AreOrdered (sym h.after) ok
+  does_order moment ev (move.Restored m) y h =
+      tunnel_put y m.tunnel.local _ (ascends_back x.role h.ground m.calls) (ap (λ (e : End). e.tunnels) h.after)
+      (subst (λ (e : End). Ascends e.calls) (sym h.after) (ascends_looks _ _ (ascends_placed m.tunnel.local _ x.calls ok.places)))
+  does_order moment ev (move.Forgot m) y h = subst AreOrdered (sym h.after) ok
+  does_order moment ev (move.Froze m) y h =
+      tunnel_put y m.tunnel _ (ascends_finished h.tunnel.calls (ok.calls m.tunnel h.tunnel h.there)) (ap (λ (e : End). e.tunnels) h.after)
+      (subst (λ (e : End). Ascends e.calls) (sym h.after) (ascends_looks (map cell.Kill (unfinished_of h.tunnel.calls)) x.calls ok.places))
+  does_order moment ev (move.ResetAttempting m) y h = line_on y m.tunnel h.tunnel _ _ _ h.there h.after
+  does_order moment ev (move.ResetAnswering m) y h = line_on y m.tunnel h.tunnel _ _ _ h.there h.after
+  does_order moment ev (move.RecoveryWentOn i) y h = line_on y i h.tunnel _ _ _ h.there h.after
+  does_order moment ev (move.RecoveryEnded i) y h = line_on y i h.tunnel _ _ _ h.there h.after
+  does_order moment ev (move.Ignored i) y h = line_on y i h.tunnel _ _ _ h.there h.after
 
-chain_looks : (moment : ℕ) (ev : Event) (x y : End) (ms : List Move) → Chain moment ev x ms y → AreOrdered x → LooksAreTrue x → LooksAreTrue y
-chain_looks moment ev x y [] h order ok = subst LooksAreTrue h ok
-chain_looks moment ev x y (m ∷ ms) h order ok =
-    chain_looks moment ev h.0 y ms h.2 (does_order x order moment ev m h.0 h.1) (does_looks x ok order moment ev m h.0 h.1)
+pub chain_looks : (moment : ℕ) (ev : Event) (x y : End) (ms : List Move) → AllByRecursion IsOfNoStart ms → Chain moment ev x ms y → AreOrdered x → LooksAreTrue x → LooksAreTrue y
+chain_looks moment ev x y [] so h order ok = subst LooksAreTrue h ok
+chain_looks moment ev x y (m ∷ ms) so h order ok =
+    chain_looks moment ev h.0 y ms so.1 h.2 (does_order x order moment ev m h.0 h.1) (does_looks x ok order moment ev m h.0 so.0 h.1)
 
 pub kept_order : (e : End) → AreKept e → AreOrdered e
 kept_order e kept = record { tunnels = kept.order; calls = λ i t f. (kept.tunnels i t f).calls; places = kept.places }
@@ -660,4 +737,4 @@ looks_begin r c = record {
 }
 
 pub looks_stay : StepsAreChains → LooksStayTrue
-looks_stay chains e kept ok moment block ev = chain_looks moment ev e _ _ (chains e kept moment block ev).chain (kept_order e kept) ok
+looks_stay chains e kept ok moment block ev = chain_looks moment ev e _ _ (steps_are_no_starts e moment block ev) (chains e kept moment block ev).chain (kept_order e kept) ok

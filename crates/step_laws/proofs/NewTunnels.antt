@@ -1,10 +1,7 @@
 -- A tunnel that is new has no calls, or its SCCRQ isn't answered yet.
-use Rattle.std.proofs.Common.{◌≡◌, ◌⊎◌, inl, inr, ⊎_elim, ℕ, ◌<◌, Bool, true, false, List, [], ◌∷◌, ◌++◌, length, refl, sym, ap, ◌∙◌, subst, Option, Some, None, Result, Ok, Err, arith}
-use Rattle.std.proofs.lemmas.Bool.{eqb-true, eqb-false, true≢false, ltb-false}
-use Rattle.std.proofs.lemmas.Option.{none-some}
-use Rattle.std.specs.Prelude.{◌==◌, nat_lt, unwrap_or}
-use Rattle.id_table.specs.Ids.{at, put, without, ids_of, at-none}
-use Rattle.id_table.specs.Order.{Ascends, found_put, found_without, same_or_not}
+use Rattle.std.proofs.Common.{◌≡◌, ◌⊎◌, inl, inr, ⊎_elim, ℕ, false, List, [], refl, ap, ◌∙◌, Result, Ok, Err}
+use Rattle.std.proofs.lemmas.Bool.{eqb-false}
+use Rattle.std.specs.Prelude.{◌==◌}
 use Rattle.id_source.specs.Spaces.{takes_id}
 use Rattle.id_source.specs.declared.IdError.{IdError}
 use Rattle.wire_base.specs.declared.why.Why.{Why}
@@ -16,56 +13,24 @@ use Rattle.l2tp_header.specs.declared.header.Header.{Header}
 use Rattle.l2tp_header.specs.declared.header.HeaderError.{HeaderError}
 use Rattle.control_message.specs.declared.message.Message.{Message}
 use Rattle.control_message.specs.declared.message.Message.TheVariants.{Sccrq, Sccrp, Scccn, StopCcn, Hello, Ocrq, Ocrp, Occn, Icrq, Icrp, Iccn, Cdn, Wen, Sli, Fsq, Fsr}
-use Rattle.control_message.specs.declared.kind.Kind.{Kind}
-use Rattle.control_message.specs.declared.kind.Kind.TheVariants as kind
-use Rattle.recv_window.specs.declared.Class.{Class}
-use Rattle.recv_window.specs.declared.Class.TheVariants.{Next, Duplicate, Ahead}
-use Rattle.control_channel.specs.Numbers.{class_told}
-use Rattle.tunnel_fsm.specs.declared.table.TunnelState.{TunnelState}
 use Rattle.tunnel_fsm.specs.declared.table.TunnelState.TheVariants as state
-use Rattle.tunnel_fsm.specs.declared.table.TunnelAction.{TunnelAction}
-use Rattle.tunnel_fsm.specs.declared.table.TunnelAction.TheVariants as action
-use Rattle.tunnel_fsm.specs.declared.table.TunnelEvent.{TunnelEvent}
-use Rattle.tunnel_fsm.specs.declared.table.TunnelEvent.TheVariants as event
-use Rattle.tunnel_fsm.specs.Rows.{rows, row_of, state_number}
-use Rattle.call_fsm.specs.declared.table.CallAction.{CallAction}
-use Rattle.call_fsm.specs.declared.table.CallAction.TheVariants as call_action
-use Rattle.call_fsm.specs.declared.table.CallEvent.{CallEvent}
-use Rattle.call_fsm.specs.declared.table.CallEvent.TheVariants as call_event
-use Rattle.call_fsm.specs.declared.table.CallState.{CallState}
-use Rattle.call_fsm.specs.declared.table.CallState.TheVariants as call
-use Rattle.end_model.specs.declared.tunnel.Call.{Call}
+use Rattle.tunnel_fsm.specs.Rows.{state_number}
 use Rattle.end_model.specs.declared.tunnel.Config.{Config}
 use Rattle.end_names.specs.declared.role.Role.{Role}
-use Rattle.end_names.specs.declared.role.Role.TheVariants.{Lac, Lns}
 use Rattle.end_model.specs.declared.out.Out.TheVariants.{Cause}
 use Rattle.session_looks.specs.Frames.{header_why}
 use Rattle.l2tp_header.specs.Reading.{body_of}
-use Rattle.end_model.specs.Reading.{message_in, CallFault, call_fault_in, TunnelFault, tunnel_fault_in}
-use Rattle.end_model.specs.Calls.{call_row, advanced, rung, asked_for, is_request, is_connection, is_up, are_too_many, is_clean_up, is_short, is_long}
-use Rattle.end_model.specs.Stopping.{rejects, rejected, shut, shuts, closed_told, closes_tunnel, closed_by, shuts_by}
-use Rattle.end_model.specs.Messages.{connected_reason, connected_event, event_by, opening_reason, Told, told_by}
+use Rattle.end_model.specs.Reading.{message_in}
+use Rattle.end_model.specs.Messages.{Told, told_by}
 use Rattle.end_model.specs.Tunnels.{Turn}
-use Rattle.end_model.specs.Turn.{with_output, with_move, with_change, with_call, with_new, drops, ends_all, ends_call}
-use Rattle.end_model.specs.Openings.{with_local, opened, opens_by, opens, accepted, accepts_by, accepts, connected, confirms}
-use Rattle.end_model.specs.Events.{with_calls}
-use Rattle.end_model.specs.Ringing.{rings_new, requested, requests, requests_at, requests_all, adds, rings_over, rings_by, rings_within, rings}
-use Rattle.end_model.specs.Hearing.{first_said, connects, takes_by, takes, about_call, in_call, hears, hears_faulty, hears_said, hears_next, hears_letter, is_duplicate, in_tunnel, hears_control, hears_datagram}
-use Rattle.end_model.specs.Sending.{gives, gives_as, settles, takes_one, reads_nr, takes_plain, ignores}
-use Rattle.end_model.specs.Channels.{has_room, may_take, counts_taken}
-use Rattle.end_model.specs.Reasons.{Reason, reason, out_of_state, fault_reason, out_of_order}
-use Rattle.end_model.specs.Refusing.{refused, refuses, of_no_call, answers_by}
-use Rattle.end_model.specs.Closing.{end_silent, end_told, ends_by, closes}
-use Rattle.end_model.specs.Asking.{granted, asked_by, replied, replies, session_named}
-use Rattle.end_model.specs.Faulty.{faulty_at, faulty, in_faulty_call}
-use Rattle.end_model.specs.Moments.{is_closed}
-use Rattle.end_model.specs.Connecting.{first_up, first_up_by, second_up, second_up_by, end_heard, end_heard_by, ends_named}
-use Rattle.end_model.specs.Frames.{carried, carries}
-use Rattle.step_laws.specs.Letters.{Among}
-use Rattle.step_laws.proofs.Lists.{branch, found_among, with_calls-more}
-use Rattle.step_laws.proofs.States.{requested_state, connected_state, up_state}
-use Rattle.step_laws.proofs.Keeping.{settled_keeps, more_full}
-use Rattle.step_laws.proofs.Shutting.{all_ended_is, none_left}
+use Rattle.end_model.specs.Turn.{with_output, with_move, with_new, drops}
+use Rattle.end_model.specs.Openings.{with_local, opened, opens_by, opens, accepted, accepts_by, accepts}
+use Rattle.end_model.specs.Ringing.{rings_new, adds, rings}
+use Rattle.end_model.specs.Hearing.{first_said, hears_control, hears_datagram}
+use Rattle.end_model.specs.Sending.{gives, settles, takes_one}
+use Rattle.end_model.specs.Channels.{has_room}
+use Rattle.step_laws.proofs.Lists.{branch}
+use Rattle.step_laws.proofs.Keeping.{settled_keeps}
 use Rattle.step_laws.proofs.Asking.{Idle}
 
 abbrev pub IsNew : Turn → Type 0

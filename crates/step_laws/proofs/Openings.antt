@@ -12,12 +12,12 @@ use Rattle.end_model.specs.Reasons.{no_tunnel, no_id, Reason, out_of_order, othe
 use Rattle.end_model.specs.Tunnels.{Tunnel}
 use Rattle.end_model.specs.Messages.{is_acceptable, event_by, opening_reason}
 use Rattle.end_model.specs.End.{End, lacks_id, against_opening}
-use Rattle.step_laws.specs.Moves.{has_all_tunnels, StandsAgainst, OtherVersion, Recovers, NoTunnel, Challenges, NoId, ClosesIn, HasOtherVersion, HasRecovery, HasOtherSecret, IsUnawaited, LacksSecret, FailsSecret}
+use Rattle.step_laws.specs.Moves.{has_all_tunnels, StandsAgainst, OtherVersion, NoTunnel, Challenges, NoId, ClosesIn, HasOtherVersion, HasRecovery, HasOtherSecret, IsUnawaited, LacksSecret, FailsSecret}
 use Rattle.step_laws.specs.Causes.{IsClosedOn, WouldOpen, IsNotAccepted, AtZero, MayOpen, IsOutOfOrder, ForPeer, FailsBySecret, AsksInVain, Stands}
 use Rattle.end_model.specs.Secrets.{lacks_secret}
 use Rattle.step_laws.proofs.Secrets.{lacks_so, lacks_not, fails, fails_so, fails_not, acceptable_at_first}
 
-other_than : (o : Opening) → (o.version == 256) ≡ false → o.version ≡ 256 → ⊥
+pub other_than : (o : Opening) → (o.version == 256) ≡ false → o.version ≡ 256 → ⊥
 other_than o other is = true≢false (sym (eq-eqb o.version 256 is) ∙ other)
 
 -- ---- how many tunnels there are
@@ -40,7 +40,7 @@ all_made e all = reached (length e.tunnels) all
 module _ (e : End) (o : Opening) where
   pub against_is : (r : Reason) → against_opening e o ≡ Some r → StandsAgainst e o r.result r.error
   unfolding against_opening
-  against_is r h = by (o.version == 256) (is_some o.recovery) (has_all_tunnels e) (lacks_secret e.config.secret o.challenge) (takes_id e.tunnel_ids) refl refl refl refl refl h
+  against_is r h = by (o.version == 256) (has_all_tunnels e) (lacks_secret e.config.secret o.challenge) (takes_id e.tunnel_ids) refl refl refl refl h
     where
       so : (q : Reason) → Some q ≡ Some r → StandsAgainst e o q.result q.error → StandsAgainst e o r.result r.error
       so q is stands = let same : q ≡ r = cc in subst (λ (x : Reason). StandsAgainst e o x.result x.error) same stands
@@ -50,32 +50,29 @@ module _ (e : End) (o : Opening) where
       last (Ok i) drawn is stands = absurd cc
       last (Err x) drawn is stands = so no_id is (stands x drawn)
 
-      by : (a b c d : Bool) (i : Result ℕ IdError) → (o.version == 256) ≡ a → is_some o.recovery ≡ b → has_all_tunnels e ≡ c
+      by : (a c d : Bool) (i : Result ℕ IdError) → (o.version == 256) ≡ a → has_all_tunnels e ≡ c
           → lacks_secret e.config.secret o.challenge ≡ d → takes_id e.tunnel_ids ≡ i
-          → cond (not a) (Some other_version)
-          (cond b (Some no_recovery) (cond c (Some no_tunnel) (cond d (Some no_secret) (lacks_id i)))) ≡ Some r → StandsAgainst e o r.result r.error
-      by false b c d i version recovery all challenge drawn is = so other_version is (OtherVersion (other_than o version) refl refl)
-      by true true c d i version recovery all challenge drawn is = so no_recovery is (Recovers (eqb-true o.version 256 version) recovery refl refl)
-      by true false true d i version recovery all challenge drawn is =
-          so no_tunnel is (NoTunnel (eqb-true o.version 256 version) recovery (all_made e all) refl refl)
-      by true false false true i version recovery all challenge drawn is =
-          so no_secret is (Challenges (eqb-true o.version 256 version) recovery (not_all e all) (lacks_so e.config.secret o.challenge challenge) refl refl)
-      by true false false false i version recovery all challenge drawn is =
-          last i drawn is (λ x none. NoId (eqb-true o.version 256 version) recovery (not_all e all) (lacks_not e.config.secret o.challenge challenge) x none refl refl)
+          → cond (not a) (Some other_version) (cond c (Some no_tunnel) (cond d (Some no_secret) (lacks_id i))) ≡ Some r → StandsAgainst e o r.result r.error
+      by false c d i version all challenge drawn is = so other_version is (OtherVersion (other_than o version) refl refl)
+      by true true d i version all challenge drawn is =
+          so no_tunnel is (NoTunnel (eqb-true o.version 256 version) (all_made e all) refl refl)
+      by true false true i version all challenge drawn is =
+          so no_secret is (Challenges (eqb-true o.version 256 version) (not_all e all) (lacks_so e.config.secret o.challenge challenge) refl refl)
+      by true false false i version all challenge drawn is =
+          last i drawn is (λ x none. NoId (eqb-true o.version 256 version) (not_all e all) (lacks_not e.config.secret o.challenge challenge) x none refl refl)
 
   -- where nothing does there may be one more, and what is asked can be answered
   pub none_against : against_opening e o ≡ None → (length e.tunnels < 1024) × (LacksSecret e.config.secret o.challenge → ⊥)
   unfolding against_opening
-  none_against h = by (o.version == 256) (is_some o.recovery) (has_all_tunnels e) (lacks_secret e.config.secret o.challenge) (lacks_id (takes_id e.tunnel_ids)) refl refl h
+  none_against h = by (o.version == 256) (has_all_tunnels e) (lacks_secret e.config.secret o.challenge) (lacks_id (takes_id e.tunnel_ids)) refl refl h
     where
-      by : (a b c d : Bool) (i : Option Reason) → has_all_tunnels e ≡ c → lacks_secret e.config.secret o.challenge ≡ d
-          → cond (not a) (Some other_version) (cond b (Some no_recovery) (cond c (Some no_tunnel) (cond d (Some no_secret) i))) ≡ None
+      by : (a c d : Bool) (i : Option Reason) → has_all_tunnels e ≡ c → lacks_secret e.config.secret o.challenge ≡ d
+          → cond (not a) (Some other_version) (cond c (Some no_tunnel) (cond d (Some no_secret) i)) ≡ None
           → (length e.tunnels < 1024) × (LacksSecret e.config.secret o.challenge → ⊥)
-      by false b c d i all lacks is = absurd cc
-      by true true c d i all lacks is = absurd cc
-      by true false true d i all lacks is = absurd cc
-      by true false false true i all lacks is = absurd cc
-      by true false false false i all lacks is = (not_all e all, lacks_not e.config.secret o.challenge lacks)
+      by false c d i all lacks is = absurd cc
+      by true true d i all lacks is = absurd cc
+      by true false true i all lacks is = absurd cc
+      by true false false i all lacks is = (not_all e all, lacks_not e.config.secret o.challenge lacks)
 
 -- and of one that closes the tunnel in which it comes
 abbrev reason_by : Bool → Bool → Bool → Reason
@@ -110,8 +107,8 @@ module _ (e : End) (moment : ℕ) (ev : Event) (o : Opening) where
       where
         by : (a b c : Bool) → (o.version == 256) ≡ a → is_some o.recovery ≡ b → fails e.config.secret asked o ≡ c
             → IsClosedOn e t (cond (is_none (against_by a b c)) good bad) → Stands e moment ev (unwrap_or (against_by a b c) out_of_order).cause
-        by false b c version recovery challenge on = (o, refused on, other_than o version)
-        by true true c version recovery challenge on = (o, refused on, (eqb-true o.version 256 version, recovery))
+        by false b c version recovery challenge on = inl (o, inl (refused on), other_than o version)
+        by true true c version recovery challenge on = inl (o, refused on, (eqb-true o.version 256 version, recovery))
         by true false true version recovery failed on =
             inl (o, refused on, (eqb-true o.version 256 version, recovery), failing (fails_so e.config.secret asked o failed), may)
         by true false false version recovery failed on = inr (inl (in_order (rw (version, recovery, failed) refl) on))
@@ -121,7 +118,7 @@ module _ (e : End) (moment : ℕ) (ev : Event) (o : Opening) where
   pub against_stands : WouldOpen e ev o → (r : Reason) → against_opening e o ≡ Some r → Stands e moment ev r.cause
   unfolding against_opening
   against_stands would r h =
-      by (o.version == 256) (is_some o.recovery) (has_all_tunnels e) (lacks_secret e.config.secret o.challenge) (takes_id e.tunnel_ids) refl refl refl refl refl h
+      by (o.version == 256) (has_all_tunnels e) (lacks_secret e.config.secret o.challenge) (takes_id e.tunnel_ids) refl refl refl refl h
     where
       so : (q : Reason) → Some q ≡ Some r → Stands e moment ev q.cause → Stands e moment ev r.cause
       so q is stands = let same : q ≡ r = cc in subst (λ (x : Reason). Stands e moment ev x.cause) same stands
@@ -131,16 +128,13 @@ module _ (e : End) (moment : ℕ) (ev : Event) (o : Opening) where
       last (Ok i) drawn is good fewer = absurd cc
       last (Err x) drawn is good fewer = so _ is (ForPeer o x would good fewer drawn)
 
-      by : (a b c d : Bool) (i : Result ℕ IdError) → (o.version == 256) ≡ a → is_some o.recovery ≡ b → has_all_tunnels e ≡ c
+      by : (a c d : Bool) (i : Result ℕ IdError) → (o.version == 256) ≡ a → has_all_tunnels e ≡ c
           → lacks_secret e.config.secret o.challenge ≡ d → takes_id e.tunnel_ids ≡ i
-          → cond (not a) (Some other_version)
-          (cond b (Some no_recovery) (cond c (Some no_tunnel) (cond d (Some no_secret) (lacks_id i)))) ≡ Some r → Stands e moment ev r.cause
-      by false b c d i version recovery all challenge drawn is = so other_version is (o, AtZero would, other_than o version)
-      by true true c d i version recovery all challenge drawn is =
-          so no_recovery is (o, AtZero would, (eqb-true o.version 256 version, recovery))
-      by true false true d i version recovery all challenge drawn is =
-          so no_tunnel is (inr (inr (o, would, (eqb-true o.version 256 version, recovery))), all)
-      by true false false true i version recovery all challenge drawn is =
+          → cond (not a) (Some other_version) (cond c (Some no_tunnel) (cond d (Some no_secret) (lacks_id i))) ≡ Some r → Stands e moment ev r.cause
+      by false c d i version all challenge drawn is = so other_version is (inl (o, inl (AtZero would), other_than o version))
+      by true true d i version all challenge drawn is =
+          so no_tunnel is (inr (inr (o, would, (eqb-true o.version 256 version, would.ordinary))), all)
+      by true false true i version all challenge drawn is =
           so no_secret is
-          (inl (o, AtZero would, (eqb-true o.version 256 version, recovery), AsksInVain (lacks_so e.config.secret o.challenge challenge), λ w. all))
-      by true false false false i version recovery all challenge drawn is = last i drawn is (acceptable_at_first e.config.secret o version recovery challenge) all
+          (inl (o, AtZero would, (eqb-true o.version 256 version, would.ordinary), AsksInVain (lacks_so e.config.secret o.challenge challenge), λ w. all))
+      by true false false i version all challenge drawn is = last i drawn is (acceptable_at_first e.config.secret o version would.ordinary challenge) all

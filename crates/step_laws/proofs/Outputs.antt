@@ -1,11 +1,11 @@
 -- What a move sends is in an output, and stays so among more outputs.
-use Rattle.std.proofs.Common.{ℕ, List, [], ◌∷◌, ◌++◌}
+use Rattle.std.proofs.Common.{List, ◌++◌}
 use Rattle.std.specs.List.{AllByRecursion}
 use Rattle.end_model.specs.declared.out.Out.{Out}
 use Rattle.end_model.specs.declared.moves.Move.{Move}
 use Rattle.end_model.specs.declared.moves.Move.TheVariants as move
 use Rattle.step_laws.specs.Letters.{Among, HasOutput}
-use Rattle.step_laws.proofs.Lists.{all_map, all_push, among_left}
+use Rattle.step_laws.proofs.Lists.{all_map, among_left}
 use Rattle.step_laws.proofs.Turns.{NoFrame}
 
 -- a move that sends no frame needs none
@@ -38,6 +38,14 @@ no_frame_out outs (move.Quiet i) h = tt
 no_frame_out outs (move.Negotiated m) h = tt
 no_frame_out outs (move.Counted m) h = tt
 no_frame_out outs (move.FrameUp m) h = tt
+no_frame_out outs (move.Restored m) h = tt
+no_frame_out outs (move.Forgot m) h = tt
+no_frame_out outs (move.Froze m) h = tt
+no_frame_out outs (move.ResetAttempting m) h = tt
+no_frame_out outs (move.ResetAnswering m) h = tt
+no_frame_out outs (move.RecoveryWentOn i) h = tt
+no_frame_out outs (move.RecoveryEnded i) h = tt
+no_frame_out outs (move.Ignored i) h = tt
 
 -- among these outputs and others
 pub output_within : (outs more : List Out) → ((o : Out) → Among o outs → Among o more) → (m : Move) → HasOutput outs m → HasOutput more m
@@ -69,6 +77,14 @@ output_within outs more within (move.Quiet i) h = tt
 output_within outs more within (move.Negotiated m) h = tt
 output_within outs more within (move.Counted m) h = tt
 output_within outs more within (move.FrameUp m) h = tt
+output_within outs more within (move.Restored m) h = tt
+output_within outs more within (move.Forgot m) h = tt
+output_within outs more within (move.Froze m) h = tt
+output_within outs more within (move.ResetAttempting m) h = tt
+output_within outs more within (move.ResetAnswering m) h = tt
+output_within outs more within (move.RecoveryWentOn i) h = tt
+output_within outs more within (move.RecoveryEnded i) h = tt
+output_within outs more within (move.Ignored i) h = tt
 
 pub frames_more : (outs more : List Out) (ms : List Move) → AllByRecursion (HasOutput outs) ms → AllByRecursion (HasOutput (outs ++ more)) ms
 frames_more outs more ms h = all_map _ _ (output_within outs (outs ++ more) (λ o a. among_left o outs more a)) ms h

@@ -2,7 +2,7 @@
 use Rattle.std.proofs.Common.{◌≡◌, ◌⊎◌, inl, inr, ⊎_elim, ℕ, Bool, true, false, List, [], ◌∷◌, ◌++◌, refl, sym, ap, ◌∙◌, subst, Option, Some, None, Result, Ok, Err}
 use Rattle.std.proofs.lemmas.Grind.{flat_map-append}
 use Rattle.std.proofs.lemmas.List.{append-nil}
-use Rattle.std.specs.Prelude.{◌==◌, ◌&&◌, nat_lt, is_some, length, unwrap_or}
+use Rattle.std.specs.Prelude.{◌==◌, ◌&&◌, nat_lt, is_some, length, unwrap_or, not}
 use Rattle.id_table.specs.Ids.{at, ids_of}
 use Rattle.id_table.specs.Order.{Ascends}
 use Rattle.wire_base.specs.declared.why.Why.{Why}
@@ -45,21 +45,21 @@ use Rattle.end_model.specs.declared.event.Event.TheVariants.{Datagram, Ring, Pay
 use Rattle.end_model.specs.declared.out.Out.TheVariants.{Gone, Cause as Refused}
 use Rattle.end_model.specs.Reading.{message_in, CallFault, call_fault_in, TunnelFault, tunnel_fault_in}
 use Rattle.end_model.specs.Calls.{counted_all, row_for, row_of_none, is_set_up, is_connection, is_up, is_clean_up}
-use Rattle.end_model.specs.Tunnels.{Turn}
-use Rattle.end_model.specs.Stopping.{rejects, rejected, shuts, closed_told, closes_tunnel, closed_by, shuts_by}
+use Rattle.end_model.specs.Tunnels.{Turn, is_current}
+use Rattle.end_model.specs.Stopping.{rejects, rejected, shuts, closed_told, closes_tunnel, closed_by, shuts_by, clears}
 use Rattle.end_model.specs.Messages.{connected_reason, connected_event, event_by, opening_reason, Told, tells_id, told_by}
 use Rattle.end_model.specs.Turn.{with_output, with_move, with_change, ends_call, ends_all}
 use Rattle.end_model.specs.Sending.{gives, settles, takes_one, takes_plain, reads_nr, repeats}
 use Rattle.end_model.specs.Channels.{has_room, may_take}
 use Rattle.end_model.specs.Moments.{is_closed, is_over, patience, is_at_its_end}
 use Rattle.end_model.specs.Reasons.{out_of_order, Reason, reason, out_of_state, fault_reason}
-use Rattle.end_model.specs.Hearing.{takes_by, takes, about_call, in_call, hears, hears_faulty, hears_said, hears_next, hears_letter, is_duplicate, in_tunnel, hears_control, hears_datagram}
+use Rattle.end_model.specs.Hearing.{takes_by, takes, about_call, in_call, hears, hears_faulty, hears_said, hears_next, hears_letter, is_duplicate, in_tunnel, hears_control, hears_datagram, ignores_all, mode_why}
 use Rattle.end_model.specs.Asking.{granted, asked_by, session_named}
 use Rattle.end_model.specs.Refusing.{answers_by}
 use Rattle.end_model.specs.Faulty.{faulty_at, faulty, in_faulty_call}
 use Rattle.end_model.specs.Closing.{closes, ends_by, end_silent, end_told}
 use Rattle.end_model.specs.Connecting.{first_up_by, second_up_by, end_heard, end_heard_by, ends_named}
-use Rattle.end_model.specs.Ticking.{greets, limits_at, limits_all, goes_quietly, clears, ticks_by, ticks}
+use Rattle.end_model.specs.Ticking.{greets, limits_at, limits_all, goes_quietly, ticks_by, ticks}
 use Rattle.end_model.specs.Linking.{sends_frames, ends_linked, links_by, hears_link, hears_lcp, ticks_link}
 use Rattle.end_model.specs.Events.{turns}
 use Rattle.step_laws.specs.Gone.{gone_of_output}
@@ -81,7 +81,7 @@ append_one : (xs : List ℕ) (y : ℕ) (ys : List ℕ) → (xs ++ y ∷ []) ++ y
 append_one [] y ys = refl
 append_one (x ∷ xs) y ys = ap (λ zs. x ∷ zs) (append_one xs y ys)
 
-ended_all : (g ss : List ℕ) (t : Turn) → TellsIn g t → TellsIn (g ++ ss) (ends_all ss t)
+pub ended_all : (g ss : List ℕ) (t : Turn) → TellsIn g t → TellsIn (g ++ ss) (ends_all ss t)
 unfolding ends_all
 ended_all g [] t h = subst (λ xs. TellsIn xs t) (sym (append-nil g)) h
 ended_all g (s ∷ ss) t h =
@@ -108,9 +108,11 @@ module _ (g : List ℕ) (s : ℕ) where
   unfolding ends_by
   by_ends for result error c call_action.CleanUp t h = silent_ends (is_up c.state) t h
   by_ends for result error c call_action.SendCdn t h =
-      branch (Ends g s) (has_room t.control) _ _
+      branch (Ends g s) (not (is_current t.on.mode)) _ _
+      (λ inactive. silent_ends (is_up c.state) t h)
+      (λ active. branch (Ends g s) (has_room t.control) _ _
       (λ may. told_ends c result error (with_output (Refused for) t) (caused g for t h))
-      (λ full. inl (dropped g why.Queue t h))
+      (λ full. inl (dropped g why.Queue t h)))
   by_ends for result error c call_action.Nothing t h = inl h
   by_ends for result error c call_action.SendIcrq t h = inl h
   by_ends for result error c call_action.SendIcrp t h = inl h
@@ -166,7 +168,7 @@ module _ (calls : List (ℕ × Call)) where
     pub once : AreDistinct gone
     pub had : (q : ℕ) → Among q gone → is_some (at calls q) ≡ true
 
-  parts_none : (t : Turn) → TellsIn [] t → Parts t
+  pub parts_none : (t : Turn) → TellsIn [] t → Parts t
   parts_none t h = record { gone = []; tells = h; once = tt; had = λ q a. absurd a }
 
   parts_one : (s : ℕ) (t : Turn) → is_some (at calls s) ≡ true → Ends [] s t → Parts t
@@ -355,9 +357,17 @@ module _ (calls : List (ℕ × Call)) where
     shut_heard_parts next t h =
         parts_all _ (let u = shuts_tells t.control.remote next _ (record { gone = h.gone; killed = h.killed }) in record { gone = u.gone; killed = u.killed })
 
+    pub cleared_parts : (t : Turn) → TellsIn [] t → Parts (clears calls t)
+    unfolding clears with_move
+    cleared_parts t h =
+        parts_all _ (let u = ended_all [] (ids_of calls) _ (record { gone = h.gone; killed = h.killed }) in record { gone = u.gone; killed = u.killed })
+
     shuts_by_parts : (next : TunnelState) (a : TunnelAction) (t : Turn) → TellsIn [] t → Parts (shuts_by calls (next, a) t)
     unfolding shuts_by
-    shuts_by_parts next action.SendStopCcn t h = shut_told_parts (reason cause.Operator 1 None) t.control.remote next t h
+    shuts_by_parts next action.SendStopCcn t h =
+        branch Parts (is_current t.on.mode) _ _
+        (λ active. shut_told_parts (reason cause.Operator 1 None) t.control.remote next t h)
+        (λ inactive. cleared_parts t h)
     shuts_by_parts next action.Nothing t h = parts_none t h
     shuts_by_parts next action.SendSccrq t h = parts_none t h
     shuts_by_parts next action.SendSccrp t h = parts_none t h
@@ -443,17 +453,23 @@ module _ (calls : List (ℕ × Call)) where
     letter_parts role g session body (Some Duplicate) t h = parts_none t h
     letter_parts role g session body None t h = parts_none t h
 
+    ignores_parts : (t : Turn) → TellsIn [] t → Parts (ignores_all t)
+    unfolding ignores_all with_move
+    ignores_parts t h = parts_none _ (dropped [] (mode_why t.on.mode) _ (record { gone = h.gone; killed = h.killed }))
+
     control_parts : (role : Role) (c : Config) (letters : List Letter) (k : Header) (body : List ℕ) (t : Turn) → TellsIn [] t
         → Parts (hears_control role c letters calls k body t)
     unfolding hears_control in_tunnel
     control_parts role c letters k body t h =
         branch Parts (state_number t.control.state == 0) _ _
         (λ idle. parts_none _ (settled [] false letters _ (first_still [] role c (message_in body) t h)))
-        (λ busy.
+        (λ busy. branch Parts (not (is_current t.on.mode)) _ _
+        (λ inactive. ignores_parts t h)
+        (λ active.
         let class = class_told t.control.channel (unwrap_or k.ns 0) (length body == 0) in
         let u = reads_nr (unwrap_or k.nr 0) t in
         settled_parts (is_duplicate class) letters (hears_letter role c calls k.session body class u)
-        (letter_parts role c k.session body class u (read_still [] (unwrap_or k.nr 0) t h)))
+        (letter_parts role c k.session body class u (read_still [] (unwrap_or k.nr 0) t h))))
 
     datagram_parts : (role : Role) (c : Config) (letters : List Letter) (bytes : List ℕ) (r : Result Header HeaderError) (t : Turn) → TellsIn [] t
         → Parts (hears_datagram role c letters calls bytes r t)
@@ -465,11 +481,6 @@ module _ (calls : List (ℕ × Call)) where
         (λ data_is. parts_none _ (dropped [] why.Session t h))
 
     -- ---- time
-
-    cleared_parts : (t : Turn) → TellsIn [] t → Parts (clears calls t)
-    unfolding clears with_move
-    cleared_parts t h =
-        parts_all _ (let u = ended_all [] (ids_of calls) _ (record { gone = h.gone; killed = h.killed }) in record { gone = u.gone; killed = u.killed })
 
     -- so far, where none of these calls is told
     record Before (ss : List ℕ) (t : Turn) : Type 0 where

@@ -2,7 +2,7 @@
 use Rattle.std.proofs.Common.{◌≡◌, ◌⊎◌, inl, inr, ⊎_elim, ℕ, ◌<◌, true, false, List, [], ◌∷◌, ◌++◌, refl, sym, ap, ◌∙◌, subst, Option, Some, None}
 use Rattle.std.proofs.lemmas.Bool.{true≢false, lt-ltb}
 use Rattle.std.proofs.lemmas.Option.{none-some}
-use Rattle.std.specs.Prelude.{◌==◌, ◌&&◌, nat_lt, Bool}
+use Rattle.std.specs.Prelude.{◌==◌, ◌&&◌, nat_lt, Bool, not}
 use Rattle.id_table.specs.Ids.{at, put, without, ids_of}
 use Rattle.id_table.specs.Order.{Ascends, ascends-put, ascends-without, found_put, found_without}
 use Rattle.wire_base.specs.declared.why.Why.TheVariants as why
@@ -27,12 +27,13 @@ use Rattle.end_names.specs.declared.role.Role.{Role}
 use Rattle.end_model.specs.declared.moves.Move.TheVariants as move
 use Rattle.end_model.specs.declared.out.Out.TheVariants.{Cause}
 use Rattle.end_model.specs.Calls.{counted, counted_all, row_for, is_set_up, is_up, is_told, is_clean_up}
-use Rattle.end_model.specs.Tunnels.{Ground, Turn}
+use Rattle.end_model.specs.Tunnels.{Ground, Turn, is_current}
 use Rattle.end_model.specs.Turn.{with_output, with_move, with_change, with_call, ends_call, drops}
 use Rattle.end_model.specs.Events.{with_calls}
 use Rattle.end_model.specs.Sending.{gives, letter_in, sends_now, settles, repeats, sends_letter}
 use Rattle.end_model.specs.Channels.{has_room, place, next_place, counts_repeated}
-use Rattle.end_model.specs.Ticking.{greeted, greets, limits_at, limits_all, goes_quietly, clears, ticks_by, ticks}
+use Rattle.end_model.specs.Ticking.{greeted, greets, limits_at, limits_all, goes_quietly, ticks_by, ticks}
+use Rattle.end_model.specs.Stopping.{clears}
 use Rattle.end_model.specs.Closing.{end_silent, end_told, ends_by}
 use Rattle.end_model.specs.Frames.{sends_frame, counts, carried}
 use Rattle.end_model.specs.Linking.{sends_frames, negotiated, ends_linked, links_by, ticks_link}
@@ -165,9 +166,11 @@ module _ (role : Role) (moment : ℕ) (calls : List (ℕ × Call)) where
     unfolding ends_by drops with_output
     limited_by s c t h is call_action.CleanUp row = ended s t (end_silent s (is_up c.state) t) (silent s (is_up c.state) t h)
     limited_by s c t h is call_action.SendCdn row =
-        branch (Limited s t) (has_room t.control) _ _
+        branch (Limited s t) (not (is_current t.on.mode)) _ _
+        (λ inactive. ended s t (end_silent s (is_up c.state) t) (silent s (is_up c.state) t h))
+        (λ active. branch (Limited s t) (has_room t.control) _ _
         (λ may. ended s t (end_told s c 10 None (with_output (Cause cause.Setup) t)) (told cause.Setup 10 s c t h))
-        (λ full. record { leads = same_leads t (drops why.Queue t) (λ f. f) refl refl refl h; past = λ d there late. full })
+        (λ full. record { leads = same_leads t (drops why.Queue t) (λ f. f) refl refl refl h; past = λ d there late. full }))
     limited_by s c t h is call_action.Nothing row = kept s c t call_action.Nothing h is row never never
     limited_by s c t h is call_action.SendIcrq row = kept s c t call_action.SendIcrq h is row never never
     limited_by s c t h is call_action.SendIcrp row = kept s c t call_action.SendIcrp h is row never never
@@ -246,9 +249,11 @@ module _ (role : Role) (moment : ℕ) (calls : List (ℕ × Call)) where
     unfolding ends_by drops with_output
     ended_by for s c t h call_action.CleanUp = (silent s (is_up c.state) t h).leads
     ended_by for s c t h call_action.SendCdn =
-        branch (Leads t) (has_room t.control) _ _
+        branch (Leads t) (not (is_current t.on.mode)) _ _
+        (λ inactive. (silent s (is_up c.state) t h).leads)
+        (λ active. branch (Leads t) (has_room t.control) _ _
         (λ may. (told for 3 s c t h).leads)
-        (λ full. same_leads t (drops why.Queue t) (λ f. f) refl refl refl h)
+        (λ full. same_leads t (drops why.Queue t) (λ f. f) refl refl refl h))
     ended_by for s c t h call_action.Nothing = leads_nowhere t h
     ended_by for s c t h call_action.SendIcrq = leads_nowhere t h
     ended_by for s c t h call_action.SendIcrp = leads_nowhere t h
@@ -337,7 +342,7 @@ module _ (role : Role) (moment : ℕ) (calls : List (ℕ × Call)) where
     greets_ok : (t : Turn) → Ticked t → Leads t (greets letters t)
     unfolding greets greeted
     greets_ok t h =
-        branch (Leads t) (state_number t.control.state == 3 && t.control.channel.window.queued == 0 && is_over patience t.on.moment t.control.heard) _ _
+        branch (Leads t) (state_number t.control.state == 3 && is_current t.on.mode && t.control.channel.window.queued == 0 && is_over patience t.on.moment t.control.heard) _ _
         (λ due.
         let v = gives 0 Hello (with_move (move.Greeted (record { tunnel = t.control.local; given = next_place t.control })) t) in
         let l = hello_ok t h in
@@ -361,6 +366,16 @@ module _ (role : Role) (moment : ℕ) (calls : List (ℕ × Call)) where
 
     abbrev pub Ticks : Turn → Turn → Type 0
     Ticks t r = (r.cleared ≡ true) ⊎ Stays t r
+
+    -- so it is of a turn that leaves the same tunnel and calls
+    pub stays_left : (t r u : Turn) → u.control ≡ r.control → u.changed ≡ r.changed → Stays t r → Stays t u
+    stays_left t r u control changed h =
+        let back : (s : ℕ) (c : Call) → There u s c → There r s c = λ s c there. subst (λ xs. at (with_calls xs calls) s ≡ Some c) changed there in
+        record {
+          state = ap (λ (c : Control). c.state) control ∙ h.state;
+          few = λ s c there set_up. h.few s c (back s c there) set_up;
+          late = λ s c there due. ap has_room control ∙ h.late s c (back s c there) due;
+        }
 
     clears_ok : (t : Turn) → Ticks t (clears calls t)
     unfolding clears

@@ -2,7 +2,7 @@
 use Rattle.std.proofs.Common.{◌≡◌, inl, inr, ℕ, ◌+◌, ◌≤◌, Bool, true, false, zero, suc, List, [], ◌∷◌, ◌++◌, length, refl, sym, ap, ◌∙◌, subst, Option, Some, None, Result, Ok, Err, arith}
 use Rattle.std.proofs.lemmas.Grind.{flat_map-append}
 use Rattle.std.proofs.lemmas.List.{append-nil, length-append}
-use Rattle.std.specs.Prelude.{◌==◌, ◌&&◌, ◌||◌, nat_le, nat_lt, unwrap_or}
+use Rattle.std.specs.Prelude.{◌==◌, ◌&&◌, ◌||◌, nat_le, nat_lt, unwrap_or, not}
 use Rattle.std.specs.List.{AllByRecursion, flat_map}
 use Rattle.id_table.specs.Ids.{at, ids_of}
 use Rattle.id_source.specs.Spaces.{takes_id}
@@ -43,9 +43,9 @@ use Rattle.end_model.specs.declared.moves.Move.{Move}
 use Rattle.end_model.specs.declared.moves.Move.TheVariants as move
 use Rattle.end_model.specs.Reading.{message_in, CallFault, call_fault_in, TunnelFault, tunnel_fault_in}
 use Rattle.end_model.specs.Calls.{row_for, row_of_none, advanced, with_numbers, counted, counted_all, is_set_up, is_request, is_connection, is_up, is_clean_up, is_short, is_long}
-use Rattle.end_model.specs.Tunnels.{Ground, Turn}
+use Rattle.end_model.specs.Tunnels.{Ground, Turn, is_current}
 use Rattle.end_model.specs.Links.{link_env, with_link, is_passing}
-use Rattle.end_model.specs.Stopping.{rejects, rejected, shuts, closed_told, closes_tunnel, closed_by, shuts_by}
+use Rattle.end_model.specs.Stopping.{rejects, rejected, shuts, closed_told, closes_tunnel, closed_by, shuts_by, clears}
 use Rattle.end_model.specs.Messages.{connected_reason, connected_event, event_by, opening_reason, Told, tells_id, told_by}
 use Rattle.end_model.specs.Turn.{with_output, with_move, with_change, with_call, with_new, drops, ends_call, ends_all, with_looks_of}
 use Rattle.end_model.specs.Openings.{with_local, opened, opens_by, opens, accepted, accepts_by, accepts, connected, confirms}
@@ -60,16 +60,18 @@ use Rattle.end_model.specs.Refusing.{refused, refuses, of_no_call, answers_by}
 use Rattle.end_model.specs.Faulty.{faulty_at, faulty, in_faulty_call}
 use Rattle.end_model.specs.Closing.{closes, ends_by, end_silent, end_told}
 use Rattle.end_model.specs.Connecting.{first_up, first_up_by, second_up, second_up_by, end_heard, end_heard_by, ends_named, connects_call, linked_up}
-use Rattle.end_model.specs.Ticking.{greeted, greets, limits_at, limits_all, goes_quietly, clears, ticks_by, ticks}
+use Rattle.end_model.specs.Ticking.{greeted, greets, limits_at, limits_all, goes_quietly, ticks_by, ticks}
 use Rattle.end_model.specs.Frames.{sends_frame, counts, carried, carries}
 use Rattle.end_model.specs.Linking.{sends_frames, negotiated, ends_linked, links_by, hears_link, hears_lcp, ticks_link}
 use Rattle.step_laws.specs.Ups.{ups_of_output, ups_of_move, births_of_move, reads_of_move}
 use Rattle.step_laws.specs.Letters.{Among}
 use Rattle.step_laws.proofs.Lists.{all_push, branch}
 
--- of a frame that a move sends down a call this is so
+-- of a frame that a move sends down a call this is so; and no move is one of a start
 abbrev pub SentSo : (ℕ → List ℕ → Type 0) → Move → Type 0
 SentSo F (move.FrameSent f) = F f.session f.frame
+SentSo F (move.Restored m) = ⊥
+SentSo F (move.Forgot m) = ⊥
 SentSo F m = Unit {0}
 
 module _ (F : ℕ → List ℕ → Type 0) (on : Ground) where
@@ -98,12 +100,12 @@ module _ (F : ℕ → List ℕ → Type 0) (on : Ground) where
       rw more (length-append before (y ∷ []))
 
   -- one more output, and one more move, that give nothing
-  told : {most reads : ℕ} {outs : List Out} {ms : List Move} {g : Ground} (o : Out) → ups_of_output o ≡ [] → AreQuiet most reads outs ms g
+  pub told : {most reads : ℕ} {outs : List Out} {ms : List Move} {g : Ground} (o : Out) → ups_of_output o ≡ [] → AreQuiet most reads outs ms g
       → AreQuiet most reads (outs ++ o ∷ []) ms g
   told {most} {reads} {outs} {ms} {g} o none h =
       record { no_output = none_more ups_of_output outs o none ∙ h.no_output; no_move = h.no_move; births = h.births; read = h.read; sent = h.sent; same = h.same }
 
-  did : {most reads : ℕ} {outs : List Out} {ms : List Move} {g : Ground} (m : Move) → ups_of_move m ≡ [] → births_of_move m ≡ [] → reads_of_move m ≡ []
+  pub did : {most reads : ℕ} {outs : List Out} {ms : List Move} {g : Ground} (m : Move) → ups_of_move m ≡ [] → births_of_move m ≡ [] → reads_of_move m ≡ []
       → SentSo F m → AreQuiet most reads outs ms g → AreQuiet most reads outs (ms ++ m ∷ []) g
   did {most} {reads} {outs} {ms} {g} m none unborn unread so h =
       record {
@@ -304,7 +306,7 @@ module _ (F : ℕ → List ℕ → Type 0) (on : Ground) where
 
     -- ---- tunnels that close
 
-    ended_quiet : (s : ℕ) (t : Turn) → Quiet t → Quiet (ends_call s t)
+    pub ended_quiet : (s : ℕ) (t : Turn) → Quiet t → Quiet (ends_call s t)
     unfolding ends_call with_output with_change
     ended_quiet s t h = told (Gone s) refl h
 
@@ -342,9 +344,18 @@ module _ (F : ℕ → List ℕ → Type 0) (on : Ground) where
         did _ refl refl refl tt
         (shuts_quiet calls t.control.remote next _ (record { no_output = h.no_output; no_move = h.no_move; births = h.births; read = h.read; sent = h.sent; same = h.same }))
 
+    pub cleared_quiet : (calls : List (ℕ × Call)) (t : Turn) → Quiet t → Quiet (clears calls t)
+    unfolding clears with_move
+    cleared_quiet calls t h =
+        let cleared = ended_all (ids_of calls) (with_move (move.Cleared t.control.local (is_open t.control.state)) t) (did (move.Cleared t.control.local (is_open t.control.state)) refl refl refl tt h) in
+        record { no_output = cleared.no_output; no_move = cleared.no_move; births = cleared.births; read = cleared.read; sent = cleared.sent; same = cleared.same }
+
     pub shuts_by_quiet : (calls : List (ℕ × Call)) (next : TunnelState) (a : TunnelAction) (t : Turn) → Quiet t → Quiet (shuts_by calls (next, a) t)
     unfolding shuts_by
-    shuts_by_quiet calls next action.SendStopCcn t h = shut_told_quiet (reason cause.Operator 1 None) calls t.control.remote next t h
+    shuts_by_quiet calls next action.SendStopCcn t h =
+        branch Quiet (is_current t.on.mode) _ _
+        (λ active. shut_told_quiet (reason cause.Operator 1 None) calls t.control.remote next t h)
+        (λ inactive. cleared_quiet calls t h)
     shuts_by_quiet calls next action.Nothing t h = h
     shuts_by_quiet calls next action.SendSccrq t h = h
     shuts_by_quiet calls next action.SendSccrp t h = h
@@ -394,9 +405,11 @@ module _ (F : ℕ → List ℕ → Type 0) (on : Ground) where
     unfolding ends_by
     ends_quiet for result error s c call_action.CleanUp t h = silent_quiet s (is_up c.state) t h
     ends_quiet for result error s c call_action.SendCdn t h =
-        branch Quiet (has_room t.control) _ _
+        branch Quiet (not (is_current t.on.mode)) _ _
+        (λ inactive. silent_quiet s (is_up c.state) t h)
+        (λ active. branch Quiet (has_room t.control) _ _
         (λ may. told_quiet s c result error (with_output (Refused for) t) (caused for t h))
-        (λ full. dropped why.Queue t h)
+        (λ full. dropped why.Queue t h))
     ends_quiet for result error s c call_action.Nothing t h = h
     ends_quiet for result error s c call_action.SendIcrq t h = h
     ends_quiet for result error s c call_action.SendIcrp t h = h
@@ -703,12 +716,6 @@ module _ (F : ℕ → List ℕ → Type 0) (on : Ground) where
 
     -- ---- time
 
-    cleared_quiet : (calls : List (ℕ × Call)) (t : Turn) → Quiet t → Quiet (clears calls t)
-    unfolding clears with_move
-    cleared_quiet calls t h =
-        let cleared = ended_all (ids_of calls) (with_move (move.Cleared t.control.local (is_open t.control.state)) t) (did (move.Cleared t.control.local (is_open t.control.state)) refl refl refl tt h) in
-        record { no_output = cleared.no_output; no_move = cleared.no_move; births = cleared.births; read = cleared.read; sent = cleared.sent; same = cleared.same }
-
     repeated_quiet : (letters : List Letter) (number : ℕ) (t : Turn) → Quiet t → Quiet (repeats letters number t)
     unfolding repeats sends_now with_move
     repeated_quiet letters number t h = sent number _ _ (did _ refl refl refl tt h)
@@ -720,7 +727,7 @@ module _ (F : ℕ → List ℕ → Type 0) (on : Ground) where
     greets_quiet : (letters : List Letter) (t : Turn) → Quiet t → Quiet (greets letters t)
     unfolding greets
     greets_quiet letters t h =
-        branch Quiet (state_number t.control.state == 3 && t.control.channel.window.queued == 0 && is_over patience t.on.moment t.control.heard) _ _
+        branch Quiet (state_number t.control.state == 3 && is_current t.on.mode && t.control.channel.window.queued == 0 && is_over patience t.on.moment t.control.heard) _ _
         (λ due. greeted_quiet letters t h)
         (λ no. h)
 

@@ -21,23 +21,24 @@ use Rattle.end_model.specs.declared.event.Event.TheVariants.{Datagram, Ring, Fra
 use Rattle.end_model.specs.declared.moves.Move.{Move}
 use Rattle.end_model.specs.Reading.{message_in}
 use Rattle.end_model.specs.Calls.{is_lac}
-use Rattle.end_model.specs.Tunnels.{Env, Turn, Tunnel, turn_of}
+use Rattle.end_model.specs.Tunnels.{Env, Turn, Tunnel, turn_in}
 use Rattle.end_model.specs.Turn.{with_move}
 use Rattle.end_model.specs.Sending.{reads_nr}
 use Rattle.end_model.specs.Hearing.{hears_letter}
 use Rattle.end_model.specs.Channels.{may_take, counts_acked}
-use Rattle.end_model.specs.End.{End, Stepped, env_of, in_main, least_in, rings_in, rings_at, only_by, step_in, plain_step}
+use Rattle.end_model.specs.End.{End, Stepped, env_of, in_main, least_in, rings_in, rings_at, only_by, step_in, plain_step, gives_only, are_recovering}
 use Rattle.step_laws.specs.Moves.{GrantsCall, DeniesCall, AsksItself, HasUsedId, HasAllCalls, HasNoSession}
 use Rattle.step_laws.specs.Causes.{MayBeGranted}
 use Rattle.step_laws.specs.Left.{AreSound, AreAsked}
 use Rattle.step_laws.specs.Steps.{AreKept}
-use Rattle.step_laws.specs.Answers.{causes_of, cause_of_denial, Incoming, TakesRequest, IsReply, AnswersIcrq, WithReply, WithRefusal, WithEnd, IsAnswer, IsAnswered, IsRepliedTo, GrantedAreRepliedTo, RingIsAnswered, RequestsAreAnswered, IsRefusedTo, NewAreJudged}
+use Rattle.step_laws.specs.Answers.{causes_of, cause_of_denial, Incoming, TakesRequest, IsReply, AnswersIcrq, WithReply, WithRefusal, WithEnd, IsAnswer, IsAnswered, IsRepliedTo, GrantedAreRepliedTo, RingIsAnswered, RequestsAreAnswered, IsRefusedTo, NewAreJudged, IsRefused}
 use Rattle.step_laws.proofs.Lists.{branch}
 use Rattle.step_laws.proofs.Owing.{spare_room}
 use Rattle.step_laws.proofs.Answering.{open_not, OneAnswer, settled_answer, next_once}
 use Rattle.step_laws.proofs.Reaching.{reached}
-use Rattle.step_laws.proofs.Chosen.{least_is, least_open, least_opening, none_open, none_opening}
+use Rattle.step_laws.proofs.Chosen.{least_is, least_open, least_opening, none_open, none_opening, none_recover}
 use Rattle.step_laws.proofs.Ringing.{main_ring, one_more_ring}
+use Rattle.wire_base.specs.declared.cause.Cause.TheVariants as cause
 
 -- ---- requests
 
@@ -57,7 +58,7 @@ module _ (e : End) (kept : AreKept e) (sound : AreSound e) (asked : AreAsked e) 
 
     -- the turn once Nr is read
     abbrev read_turn : Turn
-    read_turn = reads_nr (unwrap_or header.nr 0) (turn_of t.control env)
+    read_turn = reads_nr (unwrap_or header.nr 0) (turn_in t env)
 
     abbrev Right : List CauseOf → Move → Type 0
     Right told m = IsAnswer e r.id t header.session body r.request told m
@@ -76,6 +77,7 @@ module _ (e : End) (kept : AreKept e) (sound : AreSound e) (asked : AreAsked e) 
           local = (kept.tunnels r.id t r.there).local;
           room = spare_room (counts_acked (unwrap_or header.nr 0) moment t.control) t.calls r.spare;
           state = r.open_is;
+          current = r.current;
         })
         refl (λ s c live. sound r.id t r.there s c live)
         (λ s c live. asked r.id t r.there (λ one. open_one one) s c live) body r.request)
@@ -86,7 +88,7 @@ module _ (e : End) (kept : AreKept e) (sound : AreSound e) (asked : AreAsked e) 
 
     step_right : OneAnswer Right (plain_step e moment block ev).moves (plain_step e moment block ev).outputs
     step_right =
-        reached e kept moment block ev r.id t r.there r.letter r.next r.named (OneAnswer Right)
+        reached e kept moment block ev r.id t r.there r.current r.letter r.next r.named (OneAnswer Right)
         (settled_answer Right false t.letters heard taken_right)
 
   pub request_answered : (ev : Event) (r : TakesRequest e moment ev) → IsAnswered e moment ev r (plain_step e moment block ev)
@@ -162,6 +164,7 @@ module _ (e : End) (kept : AreKept e) (sound : AreSound e) (asked : AreAsked e) 
           tunnel = r.tunnel;
           there = r.there;
           open_is = r.open_is;
+          current = r.current;
           letter = r.letter;
           next = r.next;
           named = r.named;
@@ -213,7 +216,7 @@ module _ (e : End) (kept : AreKept e) (moment : ℕ) (block : List ℕ) (who : L
 
   rung_in : (ev : Event) → IsRing ev who → (open_one opening : Option ℕ) → least_in Established e.config.lns e.tunnels ≡ open_one
       → least_in WaitCtlReply e.config.lns e.tunnels ≡ opening → Rung (rings_in e (env_of e moment block) ev open_one opening)
-  unfolding rings_in
+  unfolding rings_in gives_only
   rung_in ev ring (Some i) opening is next =
       let least = least_open e kept i is in
       subst (λ o. Rung (in_main e (env_of e moment block) ev i o)) (sym least.there)
@@ -223,7 +226,10 @@ module _ (e : End) (kept : AreKept e) (moment : ℕ) (block : List ℕ) (who : L
       subst (λ o. Rung (in_main e (env_of e moment block) ev i o)) (sym least.there)
       (main_ring e kept lac moment block who ev ring i least.tunnel least.there
       (inr ((least_is e WaitCtlReply i least least.tunnel least.there).0, none_open e kept is, least)))
-  rung_in ev ring None None is next = one_more_ring e kept lac moment block who ev ring (none_open e kept is) (none_opening e kept next)
+  rung_in ev ring None None is next =
+      branch Rung (are_recovering e.config.lns e.tunnels) _ _
+      (λ some. IsRefused cause.Recovering refl refl)
+      (λ none. one_more_ring e kept lac moment block who ev ring (none_open e kept is) (none_opening e kept next) (none_recover e kept none))
 
   rung_lac : (ev : Event) → IsRing ev who → Rung (only_by Lac e (rings_at e (env_of e moment block) ev))
   unfolding only_by rings_at

@@ -1,5 +1,5 @@
 -- What comes of a ring: a call is born, or nothing is done and a cause is told.
-use Rattle.step_laws.proofs.Callers.{turns_ring}
+use Rattle.step_laws.proofs.Callers.{turns_ring, ring_no_tick}
 use Rattle.step_laws.specs.Callers.{IsRing}
 use Rattle.std.proofs.Common.{◌≡◌, ◌⊎◌, ⊎_elim, ℕ, true, false, List, [], refl, sym, ◌∙◌, subst, arith, Some, Result, Ok, Err}
 use Rattle.std.proofs.lemmas.Bool.{true≢false, eq-eqb, eqb-true}
@@ -17,10 +17,9 @@ use Rattle.tunnel_fsm.specs.Rows.{state_number}
 use Rattle.call_fsm.specs.declared.table.CallEvent.TheVariants as call_event
 use Rattle.end_model.specs.declared.event.Event.{Event}
 use Rattle.end_names.specs.declared.role.Role.TheVariants.{Lac}
-use Rattle.end_model.specs.declared.event.Event.TheVariants.{Ring}
 use Rattle.end_model.specs.declared.out.Out.TheVariants.{Cause}
 use Rattle.end_model.specs.Calls.{call_row, advanced, rung, is_request, are_too_many}
-use Rattle.end_model.specs.Tunnels.{Env, Turn, Tunnel, turn_of}
+use Rattle.end_model.specs.Tunnels.{Env, Turn, Tunnel, turn_of, turn_in}
 use Rattle.end_model.specs.Turn.{with_output, with_move, with_change, with_call, with_new}
 use Rattle.end_model.specs.Openings.{with_local, fresh, opened}
 use Rattle.end_model.specs.Sending.{gives, gives_as, settles}
@@ -28,13 +27,14 @@ use Rattle.end_model.specs.Channels.{has_room, may_take}
 use Rattle.end_model.specs.Ringing.{requested, requests, adds, rings_over, rings_by, rings_within, rings_new, rings}
 use Rattle.end_model.specs.Events.{turns}
 use Rattle.end_model.specs.End.{End, Stepped, env_of, gives_only, after_turn, after_new, in_new, has_all_tunnels, in_one_more, in_main}
-use Rattle.step_laws.specs.Room.{IsLeast, HasNone, RingsNew}
+use Rattle.step_laws.specs.Room.{IsLeast, HasNone, IsRecovering}
 use Rattle.step_laws.specs.Steps.{AreKept}
 use Rattle.step_laws.specs.Answers.{ring_of_move, cause_of_output, RingIsAnswered, IsAsked, Waits, Opens, IsRefused}
 use Rattle.step_laws.proofs.Lists.{branch}
 use Rattle.step_laws.proofs.Owing.{spare_room}
 use Rattle.step_laws.proofs.States.{rung_asks}
 use Rattle.step_laws.proofs.Still.{settled_done, settled_told}
+use Rattle.end_model.specs.Recovering.{recovering_turns}
 
 module _ (e : End) (kept : AreKept e) (lac : e.role ≡ Lac) (moment : ℕ) (block : List ℕ) (who : List ℕ) (ev : Event) (ring : IsRing ev who) where
   abbrev env : Env
@@ -52,7 +52,7 @@ module _ (e : End) (kept : AreKept e) (lac : e.role ≡ Lac) (moment : ℕ) (blo
       → flat_map cause_of_output z.outputs ≡ flat_map cause_of_output s.outputs → RingIsAnswered e who s → RingIsAnswered e who z
   same_ring s z done told (IsAsked a q is born least tunnel session at_port) = IsAsked a q (done ∙ is) born least tunnel session at_port
   same_ring s z done told (Waits a is born none least) = Waits a (done ∙ is) born none least
-  same_ring s z done told (Opens o a is born drawn peer tunnel no_open no_opening) = Opens o a (done ∙ is) born drawn peer tunnel no_open no_opening
+  same_ring s z done told (Opens o a is born drawn peer tunnel no_open no_opening none) = Opens o a (done ∙ is) born drawn peer tunnel no_open no_opening none
   same_ring s z done told (IsRefused c is one) = IsRefused c (done ∙ is) (told ∙ one)
 
   settled_ring : (letters : List Letter) (u : Turn) → Answers u → Answers (settles false letters u)
@@ -65,7 +65,7 @@ module _ (e : End) (kept : AreKept e) (lac : e.role ≡ Lac) (moment : ℕ) (blo
   module _ (i : ℕ) (t : Tunnel) (there : at e.tunnels i ≡ Some t)
       (goes : ((state_number t.control.state ≡ 3) × IsLeast e Established i) ⊎ ((state_number t.control.state ≡ 1) × HasNone e Established × IsLeast e WaitCtlReply i)) where
     abbrev start : Turn
-    start = turn_of t.control env
+    start = turn_in t env
 
     refused_ring : (c : CauseOf) → Answers (with_output (Cause c) start)
     unfolding with_output
@@ -125,8 +125,8 @@ module _ (e : End) (kept : AreKept e) (lac : e.role ≡ Lac) (moment : ℕ) (blo
         (λ full. refused_ring cause.Queue)))))
 
     pub main_ring : RingIsAnswered e who (in_main e env ev i (Some t))
-    unfolding in_main after_turn
-    main_ring = same_ring (of_turn (turns e.role e.config t.letters t.calls ev start)) _ refl refl rung_ring
+    unfolding in_main after_turn recovering_turns
+    main_ring = rw (ring_no_tick ev who ring) (same_ring (of_turn (turns e.role e.config t.letters t.calls ev start)) _ refl refl rung_ring)
 
   -- ---- over a tunnel that is opened for it
 
@@ -137,35 +137,35 @@ module _ (e : End) (kept : AreKept e) (lac : e.role ≡ Lac) (moment : ℕ) (blo
   unfolding with_output
   refused_new c = IsRefused c refl refl
 
-  opened_ring : HasNone e Established → HasNone e WaitCtlReply → (s i : ℕ) → takes_id e.session_ids ≡ Ok s → takes_id e.tunnel_ids ≡ Ok i
+  opened_ring : HasNone e Established → HasNone e WaitCtlReply → (IsRecovering e → ⊥) → (s i : ℕ) → takes_id e.session_ids ≡ Ok s → takes_id e.tunnel_ids ≡ Ok i
       → Answers (adds e.role who s (opened e.role e.config i blank))
   unfolding adds with_new opened gives with_move with_local
-  opened_ring no_open no_opening s i drawn got = Opens _ _ refl (record { drawn = drawn; subscriber_is = refl }) got refl refl no_open no_opening
+  opened_ring no_open no_opening none s i drawn got = Opens _ _ refl (record { drawn = drawn; subscriber_is = refl }) got refl refl no_open no_opening none
 
-  new_ring : HasNone e Established → HasNone e WaitCtlReply → (r q : Result ℕ IdError) → takes_id e.session_ids ≡ r → takes_id e.tunnel_ids ≡ q
+  new_ring : HasNone e Established → HasNone e WaitCtlReply → (IsRecovering e → ⊥) → (r q : Result ℕ IdError) → takes_id e.session_ids ≡ r → takes_id e.tunnel_ids ≡ q
       → Answers (rings_new e.role e.config who r q blank)
   unfolding rings_new
-  new_ring no_open no_opening (Err x) q drawn got = refused_new cause.Ids
-  new_ring no_open no_opening (Ok s) (Err x) drawn got = refused_new cause.Ids
-  new_ring no_open no_opening (Ok s) (Ok i) drawn got =
+  new_ring no_open no_opening none (Err x) q drawn got = refused_new cause.Ids
+  new_ring no_open no_opening none (Ok s) (Err x) drawn got = refused_new cause.Ids
+  new_ring no_open no_opening none (Ok s) (Ok i) drawn got =
       branch Answers (has_room blank.control) (adds e.role who s (opened e.role e.config i blank)) (with_output (Cause cause.Queue) blank)
-      (λ may. opened_ring no_open no_opening s i drawn got)
+      (λ may. opened_ring no_open no_opening none s i drawn got)
       (λ full. refused_new cause.Queue)
 
-  made_ring : HasNone e Established → HasNone e WaitCtlReply → Answers (turns e.role e.config [] [] ev blank)
+  made_ring : HasNone e Established → HasNone e WaitCtlReply → (IsRecovering e → ⊥) → Answers (turns e.role e.config [] [] ev blank)
   unfolding rings
-  made_ring no_open no_opening =
+  made_ring no_open no_opening none =
       subst Answers (sym (turns_ring e.role e.config [] [] ev who blank ring))
-      (settled_ring [] _ (new_ring no_open no_opening (takes_id e.session_ids) (takes_id e.tunnel_ids) refl refl))
+      (settled_ring [] _ (new_ring no_open no_opening none (takes_id e.session_ids) (takes_id e.tunnel_ids) refl refl))
 
   abbrev IsRung : Stepped → Type 0
   IsRung s = RingIsAnswered e who s
 
-  pub one_more_ring : HasNone e Established → HasNone e WaitCtlReply → IsRung (in_one_more e env ev e.config.lns (Cause cause.Tunnels))
+  pub one_more_ring : HasNone e Established → HasNone e WaitCtlReply → (IsRecovering e → ⊥) → IsRung (in_one_more e env ev e.config.lns (Cause cause.Tunnels))
   unfolding in_one_more gives_only in_new after_new after_turn
-  one_more_ring no_open no_opening =
+  one_more_ring no_open no_opening none =
       let u = turns e.role e.config [] [] ev blank in
-      let made = made_ring no_open no_opening in
+      let made = made_ring no_open no_opening none in
       branch IsRung (has_all_tunnels e.tunnels) _ _
       (λ all. IsRefused cause.Tunnels refl refl)
       (λ fewer. branch IsRung (u.control.local == 0) _ _

@@ -1,5 +1,5 @@
 -- Each ring comes to a call that lives after the step, or to one cause.
-use Rattle.step_laws.proofs.Callers.{turns_ring}
+use Rattle.step_laws.proofs.Callers.{turns_ring, ring_no_tick}
 use Rattle.step_laws.specs.Callers.{IsRing}
 use Rattle.std.proofs.Common.{◌≡◌, ◌⊎◌, inl, inr, ⊎_elim, ℕ, Bool, true, false, zero, suc, List, [], ◌∷◌, refl, sym, ap, ◌∙◌, subst, arith, Option, Some, None, Result, Ok, Err}
 use Rattle.std.proofs.lemmas.Bool.{true≢false, eqb-true}
@@ -25,22 +25,23 @@ use Rattle.end_model.specs.declared.tunnel.Call.{Call}
 use Rattle.end_model.specs.declared.tunnel.CallPlace.{CallPlace}
 use Rattle.end_model.specs.declared.out.Out.TheVariants.{Cause}
 use Rattle.end_model.specs.Calls.{call_row, is_lac, advanced, rung, is_request, are_too_many}
-use Rattle.end_model.specs.Tunnels.{Env, Turn, Tunnel, turn_of}
+use Rattle.end_model.specs.Tunnels.{Env, Turn, Tunnel, turn_of, turn_in, Recovering}
 use Rattle.end_model.specs.Turn.{with_output, with_move, with_change, with_call, with_new}
 use Rattle.end_model.specs.Openings.{with_local, fresh, opened}
 use Rattle.end_model.specs.Sending.{gives, gives_as, sends_letter, sends_now, lets_go, goes_by, lets_all_go, acknowledges, outstanding, acknowledged_after, settles}
 use Rattle.end_model.specs.Channels.{has_room, may_take}
 use Rattle.end_model.specs.Ringing.{requested, requests, adds, rings_over, rings_by, rings_within, rings_new, rings}
 use Rattle.end_model.specs.Events.{turns}
-use Rattle.end_model.specs.End.{End, Stepped, env_of, gives_only, new_place, placed, with_look, with_looks, after_turn, after_new, in_new, has_all_tunnels, in_one_more, in_main, least_in, rings_in, rings_at, only_by, step_in, plain_step}
+use Rattle.end_model.specs.End.{End, Stepped, env_of, gives_only, new_place, placed, with_look, with_looks, after_turn, after_new, in_new, has_all_tunnels, in_one_more, in_main, least_in, rings_in, rings_at, only_by, step_in, plain_step, are_recovering}
 use Rattle.step_laws.specs.Steps.{AreKept}
 use Rattle.step_laws.specs.Answers.{causes_of, cause_of_output}
-use Rattle.step_laws.specs.Rings.{IsRingCause, ForTunnels, ForCalls, ForRoom, ForIds, RingComes, ToCall, ToCause, RingsCome}
+use Rattle.step_laws.specs.Rings.{IsRingCause, ForTunnels, ForCalls, ForRoom, ForIds, RingComes, ToCall, ToCause, RingsCome, ForRecovery}
 use Rattle.step_laws.proofs.Lists.{branch}
 use Rattle.step_laws.proofs.Owing.{spare_room}
 use Rattle.step_laws.proofs.States.{rung_asks}
 use Rattle.step_laws.proofs.Still.{settled_told}
 use Rattle.step_laws.proofs.Chosen.{least_open, least_opening}
+use Rattle.end_model.specs.Recovering.{recovering_turns}
 
 -- ---- what settles a turn adds no call, and changes no look
 
@@ -110,11 +111,12 @@ module _ (e : End) (Q : ℕ → Type 0) where
   settled_comes letters u h = same_comes u (settles false letters u) (settled_seen false letters u)
       (settled_told cause_of_output (λ peer bytes o. refl) false letters u) h
 
-  after_comes : (i : ℕ) (letters : List Letter) (calls : List (ℕ × Call)) (u : Turn) → Comes e Q u → RingComes e (after_turn e i letters calls u)
+  after_comes : (i : ℕ) (letters : List Letter) (calls : List (ℕ × Call)) (recovery : Option Recovering) (u : Turn) → Comes e Q u
+      → RingComes e (after_turn e i letters calls recovery u)
   unfolding after_turn placed with_looks
-  after_comes i letters calls u (Makes s drawn added bound none local) =
+  after_comes i letters calls recovery u (Makes s drawn added bound none local) =
       ToCall s drawn (rw added (lives u.control.local s u.changes e.calls bound)) none
-  after_comes i letters calls u (Tells c is one added changes) = ToCause c is one (rw (added, changes) refl)
+  after_comes i letters calls recovery u (Tells c is one added changes) = ToCause c is one (rw (added, changes) refl)
 
 module _ (e : End) (kept : AreKept e) (lac : e.role ≡ Lac) (moment : ℕ) (block : List ℕ) (who : List ℕ) (ev : Event) (ring : IsRing ev who) where
   abbrev env : Env
@@ -124,7 +126,7 @@ module _ (e : End) (kept : AreKept e) (lac : e.role ≡ Lac) (moment : ℕ) (blo
 
   module _ (i : ℕ) (t : Tunnel) (there : at e.tunnels i ≡ Some t) where
     abbrev start : Turn
-    start = turn_of t.control env
+    start = turn_in t env
 
     abbrev Old : Turn → Type 0
     Old u = Comes e (λ n. Unit {0}) u
@@ -167,10 +169,10 @@ module _ (e : End) (kept : AreKept e) (lac : e.role ≡ Lac) (moment : ℕ) (blo
         (λ full. refused_old cause.Queue ForRoom)))))
 
     old_comes : RingComes e (in_main e env ev i (at e.tunnels i))
-    unfolding in_main
+    unfolding in_main recovering_turns
     old_comes =
-        rw there
-        (after_comes e (λ n. Unit {0}) i t.letters t.calls (turns e.role e.config t.letters t.calls ev start) rung_old)
+        rw (there, ring_no_tick ev who ring)
+        (after_comes e (λ n. Unit {0}) i t.letters t.calls t.recovery (turns e.role e.config t.letters t.calls ev start) rung_old)
 
   -- ---- over a tunnel that is opened for it
 
@@ -224,16 +226,17 @@ module _ (e : End) (kept : AreKept e) (lac : e.role ≡ Lac) (moment : ℕ) (blo
       (λ all. ToCause cause.Tunnels ForTunnels refl refl)
       (λ fewer. branch IsSo (u.control.local == 0) _ _
       (λ zero. unmade u (eqb-true u.control.local 0 zero) made_new)
-      (λ some. after_comes e HasId u.control.local [] [] u made_new))
+      (λ some. after_comes e HasId u.control.local [] [] None u made_new))
 
   -- ---- the step
 
   rung_in : (open_one opening : Option ℕ) → least_in Established e.config.lns e.tunnels ≡ open_one
       → least_in WaitCtlReply e.config.lns e.tunnels ≡ opening → RingComes e (rings_in e env ev open_one opening)
-  unfolding rings_in
+  unfolding rings_in gives_only
   rung_in (Some i) opening is next = let least = least_open e kept i is in old_comes i least.tunnel least.there
   rung_in None (Some i) is next = let least = least_opening e kept i next in old_comes i least.tunnel least.there
-  rung_in None None is next = new_comes
+  rung_in None None is next =
+      branch IsSo (are_recovering e.config.lns e.tunnels) _ _ (λ some. ToCause cause.Recovering ForRecovery refl refl) (λ none. new_comes)
 
   rung_lac : RingComes e (only_by Lac e (rings_at e env ev))
   unfolding only_by rings_at

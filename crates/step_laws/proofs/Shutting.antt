@@ -23,7 +23,7 @@ use Rattle.end_model.specs.declared.moves.Closed.{Closed}
 use Rattle.end_model.specs.declared.moves.Move.TheVariants as move
 use Rattle.end_model.specs.Channels.{may_take, next_place, taken_place, has_room, letter_of, counts_taken}
 use Rattle.end_model.specs.Stopping.{rejected, rejects, shut, shuts, closed_told, closes_tunnel, closed_by}
-use Rattle.end_model.specs.Tunnels.{Tunnel, Turn}
+use Rattle.end_model.specs.Tunnels.{Tunnel, Turn, Recovering}
 use Rattle.end_model.specs.Reasons.{Reason}
 use Rattle.end_model.specs.Moments.{is_closed, is_open}
 use Rattle.end_model.specs.Turn.{with_output, with_move, with_change, ends_call, ends_all}
@@ -64,7 +64,7 @@ same_id : (k : ℕ) → nat_cmp k k ≡ Equal
 same_id k = grind (arith, nat_tests)
 
 -- none is left of a table whose ids are taken out
-without_first : (e : ℕ × Call) (es : List (ℕ × Call)) → without (e ∷ es) e.0 ≡ es
+pub without_first : (e : ℕ × Call) (es : List (ℕ × Call)) → without (e ∷ es) e.0 ≡ es
 unfolding without
 without_first e es = rw (same_id e.0) refl
 
@@ -87,9 +87,9 @@ gone_tells : (e : End) (moment : ℕ) (ev : Event) (ss : List ℕ) → AllByRecu
 gone_tells e moment ev [] = tt
 gone_tells e moment ev (s ∷ ss) = (tt, gone_tells e moment ev ss)
 
-module _ (e : End) (moment : ℕ) (ev : Event) (letters : List Letter) (calls : List (ℕ × Call)) (i : ℕ) where
+module _ (e : End) (moment : ℕ) (ev : Event) (letters : List Letter) (calls : List (ℕ × Call)) (recovery : Option Recovering) (i : ℕ) where
   abbrev tunnel : Turn → Tunnel
-  tunnel t = tunnel_after t letters calls
+  tunnel t = tunnel_after t letters calls recovery
 
   -- why the tunnel is closed, as the turn has it
   abbrev pub Why : Turn → TunnelEvent → Reason → ℕ → Type 0
@@ -100,7 +100,7 @@ module _ (e : End) (moment : ℕ) (ev : Event) (letters : List Letter) (calls : 
 
   pub told_ok : (r : Reason) → Stands e moment ev r.cause → (on : TunnelEvent) (remote : ℕ) (t : Turn) → t.changed ≡ []
       → row_of rows t.control.state on ≡ (state.Closed, action.SendStopCcn) → Why t on r remote → has_room t.control ≡ true
-      → TurnOk e moment ev letters calls i t → TurnOk e moment ev letters calls i (closed_told r calls remote state.Closed t)
+      → TurnOk e moment ev letters calls recovery i t → TurnOk e moment ev letters calls recovery i (closed_told r calls remote state.Closed t)
   unfolding closed_told shuts gives with_output with_move with_calls
   told_ok r so on remote t none row why room h =
       let m = move.Closed (record {
@@ -115,9 +115,10 @@ module _ (e : End) (moment : ℕ) (ev : Event) (letters : List Letter) (calls : 
       let u : Turn = record t { control = shut remote state.Closed t.on.moment t.control; outputs = t.outputs ++ Cause r.cause ∷ [] } in
       let outs = t.outputs ++ Cause r.cause ∷ [] in
       rw (all_ended_is (ids_of calls) u) (record {
-        chain = chain_more moment ev e (at_turn e moment ev letters calls i t) _ t.moves m h.chain (record {
+        chain = chain_more moment ev e (at_turn e moment ev letters calls recovery i t) _ t.moves m h.chain (record {
           tunnel = tunnel t;
-          there = there e moment ev letters calls i t;
+          there = there e moment ev letters calls recovery i t;
+          current = h.current;
           on = on;
           why = why _ refl refl refl refl;
           row = row;
@@ -126,14 +127,15 @@ module _ (e : End) (moment : ℕ) (ev : Event) (letters : List Letter) (calls : 
           given = refl;
           after =
               let looked = with_looks-append t.changes (map cell.Kill (ids_of calls)) (placed t.control.local t.added e.calls) in
-              let given = one_given e moment ev letters calls i t l in
+              let given = one_given e moment ev letters calls recovery i t l in
               rw (put-put e.tunnels t.control.local (tunnel t) _, given, looked, h.stays.4, none, none_left calls) refl;
         });
         words = all_append IsWord outs _ (all_push IsWord t.outputs (Cause r.cause) h.words tt) (gone_words (ids_of calls));
         tells = all_append _ outs _ (all_push _ t.outputs (Cause r.cause) h.tells so) (gone_tells e moment ev (ids_of calls));
         frames = all_push NoFrame t.moves m h.frames tt;
-        stays = (h.stays.0, (λ z. absurd (omega (arith, z))), h.stays.2, h.stays.3, h.stays.4, h.stays.5);
-        held = given_held e moment ev letters calls i t l h.held;
+        stays = (h.stays.0, (λ z. absurd (omega (arith, z))), h.stays.2, h.stays.3, h.stays.4, h.stays.5, h.stays.6);
+        current = h.current;
+        held = given_held e moment ev letters calls recovery i t l h.held;
         fits = rw (none, none_left calls) (fits_last t.control remote t.on.moment room);
       })
 
@@ -142,7 +144,7 @@ module _ (e : End) (moment : ℕ) (ev : Event) (letters : List Letter) (calls : 
       → row_of rows t.control.state on ≡ (state.Closed, action.SendStopCcn) → state_number t.control.state ≡ 1 → (k : Came)
       → IsNext ev (tunnel t) k → may_take t.control (with_calls t.changed calls) ≡ true
       → LetterCloses e.config.secret t.control k on remote r.result r.error → has_room t.control ≡ true
-      → TurnOk e moment ev letters calls i t → TurnOk e moment ev letters calls i (rejected r calls remote state.Closed t)
+      → TurnOk e moment ev letters calls recovery i t → TurnOk e moment ev letters calls recovery i (rejected r calls remote state.Closed t)
   unfolding rejected shuts gives with_output with_move with_calls takes_one
   rejected_ok r so on remote t none row waits k next spare why room h =
       let m = move.Rejected (record {
@@ -157,9 +159,10 @@ module _ (e : End) (moment : ℕ) (ev : Event) (letters : List Letter) (calls : 
       let outs = t.outputs ++ Cause r.cause ∷ [] in
       let u : Turn = record t { control = shut remote state.Closed t.on.moment (counts_taken t.control); took = true; outputs = outs } in
       rw (all_ended_is (ids_of calls) u) (record {
-        chain = chain_more moment ev e (at_turn e moment ev letters calls i t) _ t.moves m h.chain (record {
+        chain = chain_more moment ev e (at_turn e moment ev letters calls recovery i t) _ t.moves m h.chain (record {
           tunnel = tunnel t;
-          there = there e moment ev letters calls i t;
+          there = there e moment ev letters calls recovery i t;
+          current = h.current;
           waits = waits;
           on = on;
           letter = k;
@@ -170,14 +173,15 @@ module _ (e : End) (moment : ℕ) (ev : Event) (letters : List Letter) (calls : 
           given = refl;
           after =
               let looked = with_looks-append t.changes (map cell.Kill (ids_of calls)) (placed t.control.local t.added e.calls) in
-              let given = one_given e moment ev letters calls i t l in
+              let given = one_given e moment ev letters calls recovery i t l in
               rw (put-put e.tunnels t.control.local (tunnel t) _, given, looked, h.stays.4, none, none_left calls) refl;
         });
         words = all_append IsWord outs _ (all_push IsWord t.outputs (Cause r.cause) h.words tt) (gone_words (ids_of calls));
         tells = all_append _ outs _ (all_push _ t.outputs (Cause r.cause) h.tells so) (gone_tells e moment ev (ids_of calls));
         frames = all_push NoFrame t.moves m h.frames tt;
-        stays = (h.stays.0, (λ z. absurd (omega (arith, z))), h.stays.2, h.stays.3, h.stays.4, h.stays.5);
-        held = given_held e moment ev letters calls i t l h.held;
+        stays = (h.stays.0, (λ z. absurd (omega (arith, z))), h.stays.2, h.stays.3, h.stays.4, h.stays.5, h.stays.6);
+        current = h.current;
+        held = given_held e moment ev letters calls recovery i t l h.held;
         fits = rw (none, none_left calls) (fits_last (counts_taken t.control) remote t.on.moment room);
       })
 
@@ -186,36 +190,37 @@ module _ (e : End) (moment : ℕ) (ev : Event) (letters : List Letter) (calls : 
       → is_closed t.control.state ≡ false → row_of rows t.control.state on ≡ (state.Closed, action.SendStopCcn) → state_number t.control.state ≡ 1
       → (k : Came) → IsNext ev (tunnel t) k → may_take t.control (with_calls t.changed calls) ≡ true
       → LetterCloses e.config.secret t.control k on remote r.result r.error
-      → TurnOk e moment ev letters calls i t → TurnOk e moment ev letters calls i (rejects r calls remote state.Closed t)
+      → TurnOk e moment ev letters calls recovery i t → TurnOk e moment ev letters calls recovery i (rejects r calls remote state.Closed t)
   unfolding rejects
   rejects_ok r so on remote t none live row waits k next spare why h =
-      branch (TurnOk e moment ev letters calls i) (has_room t.control) _ _
+      branch (TurnOk e moment ev letters calls recovery i) (has_room t.control) _ _
       (λ room. rejected_ok r so on remote t none row waits k next spare why room h)
-      (λ full. absurd (is_roomy e moment ev letters calls i t live h full))
+      (λ full. absurd (is_roomy e moment ev letters calls recovery i t live h full))
 
   -- there is room for that, as long as it isn't closed
   pub told_shut_ok : (r : Reason) → Stands e moment ev r.cause → (on : TunnelEvent) (remote : ℕ) (t : Turn) → t.changed ≡ []
       → is_closed t.control.state ≡ false → row_of rows t.control.state on ≡ (state.Closed, action.SendStopCcn) → Why t on r remote
-      → TurnOk e moment ev letters calls i t → TurnOk e moment ev letters calls i (closes_tunnel r calls remote state.Closed t)
+      → TurnOk e moment ev letters calls recovery i t → TurnOk e moment ev letters calls recovery i (closes_tunnel r calls remote state.Closed t)
   unfolding closes_tunnel
   told_shut_ok r so on remote t none live row why h =
-      branch (TurnOk e moment ev letters calls i) (has_room t.control) _ _
+      branch (TurnOk e moment ev letters calls recovery i) (has_room t.control) _ _
       (λ room. told_ok r so on remote t none row why room h)
-      (λ full. absurd (is_roomy e moment ev letters calls i t live h full))
+      (λ full. absurd (is_roomy e moment ev letters calls recovery i t live h full))
 
   -- ---- the peer's StopCCN is taken
 
   pub heard_shut_ok : (t : Turn) → t.changed ≡ [] → is_closed t.control.state ≡ false → (k : Came) → IsNext ev (tunnel t) k
-      → may_take t.control (with_calls t.changed calls) ≡ true → SaysStop k.body → TurnOk e moment ev letters calls i t
-      → TurnOk e moment ev letters calls i (closed_by calls state.Closed t)
+      → may_take t.control (with_calls t.changed calls) ≡ true → SaysStop k.body → TurnOk e moment ev letters calls recovery i t
+      → TurnOk e moment ev letters calls recovery i (closed_by calls state.Closed t)
   unfolding closed_by shuts takes_one with_move with_calls
   heard_shut_ok t none live k next spare says h =
       let m = move.ClosedBy (record { tunnel = t.control.local; booked = is_open t.control.state; taken = taken_place t.control }) in
       let u : Turn = record t { control = shut t.control.remote state.Closed t.on.moment (counts_taken t.control); took = true } in
       rw (all_ended_is (ids_of calls) u) (record {
-        chain = chain_more moment ev e (at_turn e moment ev letters calls i t) _ t.moves m h.chain (record {
+        chain = chain_more moment ev e (at_turn e moment ev letters calls recovery i t) _ t.moves m h.chain (record {
           tunnel = tunnel t;
-          there = there e moment ev letters calls i t;
+          there = there e moment ev letters calls recovery i t;
+          current = h.current;
           live = live;
           letter = k;
           takes = record { next = next; taken_is = refl; spare = spare };
@@ -228,7 +233,8 @@ module _ (e : End) (moment : ℕ) (ev : Event) (letters : List Letter) (calls : 
         words = all_append IsWord t.outputs _ h.words (gone_words (ids_of calls));
         tells = all_append _ t.outputs _ h.tells (gone_tells e moment ev (ids_of calls));
         frames = all_push NoFrame t.moves m h.frames tt;
-        stays = (h.stays.0, (λ z. absurd (omega (arith, z))), h.stays.2, h.stays.3, h.stays.4, h.stays.5);
+        stays = (h.stays.0, (λ z. absurd (omega (arith, z))), h.stays.2, h.stays.3, h.stays.4, h.stays.5, h.stays.6);
+        current = h.current;
         held = h.held;
         fits = rw (none, none_left calls) (fits_shut (counts_taken t.control) t.control.remote t.on.moment (with_calls t.changed calls) h.fits);
       })

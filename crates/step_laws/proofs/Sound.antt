@@ -16,11 +16,14 @@ use Rattle.end_model.specs.Calls.{call_row, row_for, row_of_none, advanced, rung
 use Rattle.end_model.specs.Tunnels.{Tunnel}
 use Rattle.end_model.specs.End.{End, plain_step}
 use Rattle.step_laws.specs.Callers.{wanted_by_lac}
-use Rattle.step_laws.specs.Moves.{Does, Chain}
+use Rattle.step_laws.specs.Moves.{Does, Chain, finished_of}
 use Rattle.step_laws.specs.Left.{CanBe, AreSound, CallsStaySound}
-use Rattle.step_laws.specs.Steps.{AreKept, StepsAreChains}
+use Rattle.step_laws.specs.Steps.{AreKept, StepsAreChains, IsOfNoStart}
 use Rattle.step_laws.proofs.States.{never, requested_state, rung_state, connected_state, up_state}
 use Rattle.step_laws.proofs.Turns.{last_after, small_draw}
+use Rattle.step_laws.proofs.Ups.{steps_are_no_starts}
+use Rattle.std.specs.List.{AllByRecursion}
+use Rattle.step_laws.proofs.Finished.{ascends_finished, found_finished}
 
 -- ---- states
 
@@ -74,6 +77,13 @@ whole_without r calls k h = record {
   sound = λ s c there. h.sound s c (found_without calls k s c h.order there).1;
 }
 
+-- those that are established
+whole_finished : (r : Role) (calls : List (ℕ × Call)) → IsWhole r calls → IsWhole r (finished_of calls)
+whole_finished r calls h = record {
+  order = ascends_finished calls h.order;
+  sound = λ s c there. h.sound s c (found_finished calls h.order s c there);
+}
+
 -- ---- moves
 
 -- so are those of each tunnel of an end
@@ -98,65 +108,73 @@ module _ (e : End) (whole : AreWhole e) where
   nothing : (x : End) → x ≡ e → AreWhole x
   nothing x same = subst AreWhole (sym same) whole
 
-  does_whole : (moment : ℕ) (ev : Event) (m : Move) (x : End) → Does e moment ev m x → AreWhole x
+  does_whole : (moment : ℕ) (ev : Event) (m : Move) (x : End) → IsOfNoStart m → Does e moment ev m x → AreWhole x
   unfolding advanced
-  does_whole moment ev (move.Opened m) x h = puts x _ m.tunnel _ h.after refl refl refl (whole_none e.role)
-  does_whole moment ev (move.Accepted m) x h = puts x _ m.tunnel _ h.after refl refl refl (whole_none e.role)
-  does_whole moment ev (move.Connected m) x h = puts x _ m.tunnel _ h.after refl refl refl (whole.calls m.tunnel h.tunnel h.there)
-  does_whole moment ev (move.Confirmed m) x h = puts x _ m.tunnel _ h.after refl refl refl (whole.calls m.tunnel h.tunnel h.there)
-  does_whole moment ev (move.Added m) x h =
+  does_whole moment ev (move.Opened m) x so h = puts x _ m.tunnel _ h.after refl refl refl (whole_none e.role)
+  does_whole moment ev (move.Accepted m) x so h = puts x _ m.tunnel _ h.after refl refl refl (whole_none e.role)
+  does_whole moment ev (move.Connected m) x so h = puts x _ m.tunnel _ h.after refl refl refl (whole.calls m.tunnel h.tunnel h.there)
+  does_whole moment ev (move.Confirmed m) x so h = puts x _ m.tunnel _ h.after refl refl refl (whole.calls m.tunnel h.tunnel h.there)
+  does_whole moment ev (move.Added m) x so h =
       puts x _ m.tunnel _ h.after refl (last_after e.session_ids) refl
       (whole_put e.role h.tunnel.calls m.session _ (small_draw e.session_ids m.session h.drawn whole.last)
       (rw (wanted_by_lac e ev h.tunnel.control.peer h.wants) (can_ring m.subscriber moment)) (whole.calls m.tunnel h.tunnel h.there))
-  does_whole moment ev (move.Requested m) x h =
+  does_whole moment ev (move.Requested m) x so h =
       puts x _ m.tunnel _ h.after refl refl refl
       (whole_put e.role h.tunnel.calls m.session _ h.session (can_request e.role h.call.state h.row) (whole.calls m.tunnel h.tunnel h.there))
-  does_whole moment ev (move.Replied m) x h =
+  does_whole moment ev (move.Replied m) x so h =
       puts x _ m.tunnel _ h.after refl (last_after e.session_ids) refl
       (whole_put e.role h.tunnel.calls m.session _ (small_draw e.session_ids m.session h.drawn whole.last)
       (can_be_asked e.role m.remote moment h.row) (whole.calls m.tunnel h.tunnel h.there))
-  does_whole moment ev (move.FirstUp m) x h =
+  does_whole moment ev (move.FirstUp m) x so h =
       let calls = whole.calls m.tunnel h.tunnel h.there in
       puts x _ m.tunnel _ h.after refl refl refl
       (whole_put e.role h.tunnel.calls m.session _ (calls.sound m.session h.call h.asked).0
       (can_be_up e.role _ (connected_state e.role h.call.state h.row).1) calls)
-  does_whole moment ev (move.SecondUp m) x h =
+  does_whole moment ev (move.SecondUp m) x so h =
       let calls = whole.calls m.tunnel h.tunnel h.there in
       puts x _ m.tunnel _ h.after refl refl refl
       (whole_put e.role h.tunnel.calls m.session _ (calls.sound m.session h.call h.made).0
       (can_be_up e.role _ (up_state (row_for e.role h.call IccnAcc).0 h.row)) calls)
-  does_whole moment ev (move.Refused m) x h = puts x _ m.tunnel _ h.after refl refl refl (whole.calls m.tunnel h.tunnel h.there)
-  does_whole moment ev (move.EndTold m) x h =
+  does_whole moment ev (move.Refused m) x so h = puts x _ m.tunnel _ h.after refl refl refl (whole.calls m.tunnel h.tunnel h.there)
+  does_whole moment ev (move.EndTold m) x so h =
       puts x _ m.tunnel _ h.after refl refl refl (whole_without e.role h.tunnel.calls m.session (whole.calls m.tunnel h.tunnel h.there))
-  does_whole moment ev (move.EndHeard m) x h =
+  does_whole moment ev (move.EndHeard m) x so h =
       puts x _ m.tunnel _ h.after refl refl refl (whole_without e.role h.tunnel.calls m.session (whole.calls m.tunnel h.tunnel h.there))
-  does_whole moment ev (move.EndSilent m) x h =
+  does_whole moment ev (move.EndSilent m) x so h =
       puts x _ m.tunnel _ h.after refl refl refl (whole_without e.role h.tunnel.calls m.session (whole.calls m.tunnel h.tunnel h.there))
-  does_whole moment ev (move.Declined m) x h = nothing x h.after
-  does_whole moment ev (move.Closed m) x h = puts x _ m.tunnel _ h.after refl refl refl (whole_none e.role)
-  does_whole moment ev (move.Rejected m) x h = puts x _ m.tunnel _ h.after refl refl refl (whole_none e.role)
-  does_whole moment ev (move.ClosedBy m) x h = puts x _ m.tunnel _ h.after refl refl refl (whole_none e.role)
-  does_whole moment ev (move.Cleared i booked) x h = subst AreWhole (sym h.after) (record {
+  does_whole moment ev (move.Declined m) x so h = nothing x h.after
+  does_whole moment ev (move.Closed m) x so h = puts x _ m.tunnel _ h.after refl refl refl (whole_none e.role)
+  does_whole moment ev (move.Rejected m) x so h = puts x _ m.tunnel _ h.after refl refl refl (whole_none e.role)
+  does_whole moment ev (move.ClosedBy m) x so h = puts x _ m.tunnel _ h.after refl refl refl (whole_none e.role)
+  does_whole moment ev (move.Cleared i booked) x so h = subst AreWhole (sym h.after) (record {
     last = whole.last;
     order = ascends-without i e.tunnels whole.order;
     calls = λ j t there. whole.calls j t (found_without e.tunnels i j t whole.order there).1;
   })
-  does_whole moment ev (move.Greeted m) x h = puts x _ m.tunnel _ h.after refl refl refl (whole.calls m.tunnel h.tunnel h.there)
-  does_whole moment ev (move.TookPlain m) x h = puts x _ m.tunnel _ h.after refl refl refl (whole.calls m.tunnel h.tunnel h.there)
-  does_whole moment ev (move.NrRead m) x h = puts x _ m.tunnel _ h.after refl refl refl (whole.calls m.tunnel h.tunnel h.there)
-  does_whole moment ev (move.LetGo m) x h = puts x _ m.tunnel _ h.after refl refl refl (whole.calls m.tunnel h.tunnel h.there)
-  does_whole moment ev (move.Repeated m) x h = puts x _ m.tunnel _ h.after refl refl refl (whole.calls m.tunnel h.tunnel h.there)
-  does_whole moment ev (move.Quiet i) x h = nothing x h.after
-  does_whole moment ev (move.Negotiated m) x h =
+  does_whole moment ev (move.Greeted m) x so h = puts x _ m.tunnel _ h.after refl refl refl (whole.calls m.tunnel h.tunnel h.there)
+  does_whole moment ev (move.TookPlain m) x so h = puts x _ m.tunnel _ h.after refl refl refl (whole.calls m.tunnel h.tunnel h.there)
+  does_whole moment ev (move.NrRead m) x so h = puts x _ m.tunnel _ h.after refl refl refl (whole.calls m.tunnel h.tunnel h.there)
+  does_whole moment ev (move.LetGo m) x so h = puts x _ m.tunnel _ h.after refl refl refl (whole.calls m.tunnel h.tunnel h.there)
+  does_whole moment ev (move.Repeated m) x so h = puts x _ m.tunnel _ h.after refl refl refl (whole.calls m.tunnel h.tunnel h.there)
+  does_whole moment ev (move.Quiet i) x so h = nothing x h.after
+  does_whole moment ev (move.Negotiated m) x so h =
       let calls = whole.calls m.tunnel h.tunnel h.there in
       puts x _ m.tunnel _ h.after refl refl refl
       (whole_put e.role h.tunnel.calls m.session _ (calls.sound m.session h.call h.live).0 (calls.sound m.session h.call h.live).1 calls)
-  does_whole moment ev (move.Counted m) x h =
+  does_whole moment ev (move.Counted m) x so h =
       let calls = whole.calls m.tunnel h.tunnel h.there in
       puts x _ m.tunnel _ h.after refl refl refl
       (whole_put e.role h.tunnel.calls m.session _ (calls.sound m.session h.call h.live).0 (calls.sound m.session h.call h.live).1 calls)
-  does_whole moment ev (move.FrameSent m) x h = nothing x h.after
-  does_whole moment ev (move.FrameUp m) x h = nothing x h.after
+  does_whole moment ev (move.FrameSent m) x so h = nothing x h.after
+  does_whole moment ev (move.FrameUp m) x so h = nothing x h.after
+  does_whole moment ev (move.Restored m) x so h = absurd so
+  does_whole moment ev (move.Forgot m) x so h = absurd so
+  does_whole moment ev (move.Froze m) x so h = puts x _ m.tunnel _ h.after refl refl refl (whole_finished e.role h.tunnel.calls (whole.calls m.tunnel h.tunnel h.there))
+  does_whole moment ev (move.ResetAttempting m) x so h = puts x _ m.tunnel _ h.after refl refl refl (whole.calls m.tunnel h.tunnel h.there)
+  does_whole moment ev (move.ResetAnswering m) x so h = puts x _ m.tunnel _ h.after refl refl refl (whole.calls m.tunnel h.tunnel h.there)
+  does_whole moment ev (move.RecoveryWentOn i) x so h = puts x _ i _ h.after refl refl refl (whole.calls i h.tunnel h.there)
+  does_whole moment ev (move.RecoveryEnded i) x so h = puts x _ i _ h.after refl refl refl (whole.calls i h.tunnel h.there)
+  does_whole moment ev (move.Ignored i) x so h = puts x _ i _ h.after refl refl refl (whole.calls i h.tunnel h.there)
 
 -- the role is the end's
 does_role : (moment : ℕ) (ev : Event) (e x : End) (m : Move) → Does e moment ev m x → x.role ≡ e.role
@@ -188,14 +206,22 @@ does_role moment ev e x (move.Negotiated m) h = ap (λ (y : End). y.role) h.afte
 does_role moment ev e x (move.Counted m) h = ap (λ (y : End). y.role) h.after
 does_role moment ev e x (move.FrameSent m) h = ap (λ (y : End). y.role) h.after
 does_role moment ev e x (move.FrameUp m) h = ap (λ (y : End). y.role) h.after
+does_role moment ev e x (move.Restored m) h = ap (λ (y : End). y.role) h.after
+does_role moment ev e x (move.Forgot m) h = ap (λ (y : End). y.role) h.after
+does_role moment ev e x (move.Froze m) h = ap (λ (y : End). y.role) h.after
+does_role moment ev e x (move.ResetAttempting m) h = ap (λ (y : End). y.role) h.after
+does_role moment ev e x (move.ResetAnswering m) h = ap (λ (y : End). y.role) h.after
+does_role moment ev e x (move.RecoveryWentOn i) h = ap (λ (y : End). y.role) h.after
+does_role moment ev e x (move.RecoveryEnded i) h = ap (λ (y : End). y.role) h.after
+does_role moment ev e x (move.Ignored i) h = ap (λ (y : End). y.role) h.after
 
 chain_role : (moment : ℕ) (ev : Event) (ms : List Move) (e x : End) → Chain moment ev e ms x → x.role ≡ e.role
 chain_role moment ev [] e x h = ap (λ (y : End). y.role) (sym h)
 chain_role moment ev (m ∷ ms) e x h = chain_role moment ev ms h.0 x h.2 ∙ does_role moment ev e h.0 m h.1
 
-chain_whole : (moment : ℕ) (ev : Event) (ms : List Move) (e x : End) → AreWhole e → Chain moment ev e ms x → AreWhole x
-chain_whole moment ev [] e x whole h = subst AreWhole h whole
-chain_whole moment ev (m ∷ ms) e x whole h = chain_whole moment ev ms h.0 x (does_whole e whole moment ev m h.0 h.1) h.2
+chain_whole : (moment : ℕ) (ev : Event) (ms : List Move) (e x : End) → AllByRecursion IsOfNoStart ms → AreWhole e → Chain moment ev e ms x → AreWhole x
+chain_whole moment ev [] e x so whole h = subst AreWhole h whole
+chain_whole moment ev (m ∷ ms) e x so whole h = chain_whole moment ev ms h.0 x so.1 (does_whole e whole moment ev m h.0 so.0 h.1) h.2
 
 module _ (chains : StepsAreChains) (e : End) (kept : AreKept e) (moment : ℕ) (block : List ℕ) (ev : Event) where
   pub role_stays : (plain_step e moment block ev).end.role ≡ e.role
@@ -204,7 +230,7 @@ module _ (chains : StepsAreChains) (e : End) (kept : AreKept e) (moment : ℕ) (
   pub stays_sound : AreSound e → AreSound (plain_step e moment block ev).end
   stays_sound sound i t there =
       let s = plain_step e moment block ev in
-      let whole = chain_whole moment ev s.moves e s.end (record {
+      let whole = chain_whole moment ev s.moves e s.end (steps_are_no_starts e moment block ev) (record {
         last = kept.sessions;
         order = kept.order;
         calls = λ j u is. record { order = (kept.tunnels j u is).calls; sound = sound j u is };

@@ -1,7 +1,7 @@
 -- Each step of an end is a chain of moves.
 use Rattle.end_names.specs.Names.{subscriber}
 use Rattle.step_laws.specs.Callers.{IsRing, LacWants}
-use Rattle.std.proofs.Common.{◌≡◌, ◌⊎◌, inl, inr, ℕ, Bool, true, false, List, [], ◌∷◌, length, refl, sym, ap, ◌∙◌, subst, Option, Some, None, Result, Ok, Err}
+use Rattle.std.proofs.Common.{◌≡◌, ◌⊎◌, inl, inr, ℕ, Bool, true, false, List, [], ◌∷◌, length, refl, sym, ap, ◌∙◌, subst, Option, Some, None, Result, Ok, Err, is_some, ⊎_elim}
 use Rattle.std.proofs.lemmas.Bool.{eqb-true, true≢false}
 use Rattle.std.specs.Prelude.{◌==◌, ◌||◌, nat_lt, not, option_map}
 use Rattle.id_table.specs.Ids.{at, ids_of}
@@ -21,7 +21,7 @@ use Rattle.session_looks.specs.declared.look.Look.TheVariants as look
 use Rattle.end_names.specs.declared.role.Role.{Role}
 use Rattle.end_names.specs.declared.role.Role.TheVariants.{Lac, Lns}
 use Rattle.end_model.specs.declared.event.Addressee.{Addressee}
-use Rattle.end_model.specs.declared.event.Addressee.TheVariants.{Opens, Stops, Answers, Main, Nobody}
+use Rattle.end_model.specs.declared.event.Addressee.TheVariants.{Opens, Stops, Answers, Main, Nobody, Recovers, Recovery}
 use Rattle.end_model.specs.declared.event.Event.{Event}
 use Rattle.end_model.specs.declared.event.Event.TheVariants.{Datagram, Ring, Payload, Lower, Lcp, Hang, OpenTunnel, DropCall, CloseTunnel, Tick, Admitted, Frame}
 use Rattle.end_model.specs.declared.out.Out.{Out}
@@ -31,32 +31,28 @@ use Rattle.end_model.specs.declared.moves.Move.TheVariants as move
 use Rattle.session_looks.specs.Frames.{header_why, frame_of, is_lcp, is_for_lcp, lns_side, side_of, Carried, Upward, Dropped, carry_known, carry_look}
 use Rattle.end_model.specs.Reading.{at_zero, at_tunnel}
 use Rattle.end_model.specs.Calls.{is_lac}
-use Rattle.end_model.specs.Tunnels.{Tunnel, Env}
+use Rattle.end_model.specs.Tunnels.{Tunnel, Env, turn_in, Recovering, ByAttempt, ByAnswer, connection_of, mode_of, is_current}
 use Rattle.end_model.specs.Events.{turns}
-use Rattle.end_model.specs.End.{End, Stepped, env_of, in_new, in_one_more, in_main, is_known, known_as, opened_before, stopped_at, opens_once, addressed, for_addressee, least_in, rings_in, rings_at, for_call, look_in, behind, then_heard, handed, hands_up, receives, only_by, step_in, plain_step}
+use Rattle.end_model.specs.End.{End, Stepped, env_of, in_new, in_one_more, in_main, is_known, known_as, opened_before, stopped_at, opens_once, addressed, for_addressee, least_in, rings_in, rings_at, for_call, look_in, behind, then_heard, handed, hands_up, receives, only_by, step_in, plain_step, after_both, in_recovery, is_line, has_line, recovered_by, answers_to, is_answered, answered_to, answered_before, at_line, at_recovery, are_recovering}
 use Rattle.step_laws.specs.Links.{HearsFrame, HearsLcp, Passes, AsAll, AsLcp}
 use Rattle.step_laws.specs.Letters.{HasOutput}
-use Rattle.step_laws.specs.Moves.{has_all_tunnels, Does}
-use Rattle.step_laws.specs.Room.{IsChosen, StepsRefuseTruly}
+use Rattle.step_laws.specs.Moves.{has_all_tunnels, Does, Came, CameIn, ComesToLine}
+use Rattle.step_laws.specs.Room.{IsChosen, StepsRefuseTruly, RingsNew}
 use Rattle.step_laws.specs.Causes.{CausesStand}
 use Rattle.step_laws.specs.Steps.{AreKept, IsOfMoves, StepsAreChains}
-use Rattle.step_laws.proofs.Lists.{branch, found_passes}
+use Rattle.step_laws.proofs.Lists.{not_false, branch, found_passes, and_left, and_right}
 use Rattle.step_laws.proofs.Tells.{Tells, of_all, header_other}
 use Rattle.step_laws.proofs.Zero.{SaysOpening, ZeroSays, zero_says}
-use Rattle.step_laws.proofs.Known.{known_peer, known_remote}
-use Rattle.step_laws.proofs.Chosen.{least_is, least_open, least_opening, none_open, none_opening}
-use Rattle.step_laws.proofs.Declining.{answer_chain, asks_chain}
+use Rattle.step_laws.proofs.Known.{known_peer, known_remote, none_answered}
+use Rattle.step_laws.proofs.Chosen.{least_is, least_open, least_opening, none_open, none_opening, some_recover, none_recover}
+use Rattle.step_laws.proofs.Declining.{answer_chain, asks_chain, recovers_chain}
 use Rattle.step_laws.proofs.Sending.{both_chain}
 use Rattle.step_laws.proofs.Ticks.{ticks_chain}
-use Rattle.step_laws.proofs.Ends.{IsTo, IsStep, drop_chain, cause_chain, heard_chain, rung_chain, hung_chain, closes_chain, shut_chain, carries_chain, lcp_chain, opens_chain, rings_chain}
-
-not_true : (a : Bool) → not a ≡ true → a ≡ false
-not_true true h = absurd (true≢false (sym h))
-not_true false h = refl
-
-not_false : (a : Bool) → not a ≡ false → a ≡ true
-not_false true h = refl
-not_false false h = absurd (true≢false h)
+use Rattle.step_laws.proofs.Leaving.{IsStep, drop_chain, cause_chain}
+use Rattle.step_laws.proofs.Ends.{IsTo, heard_chain, rung_chain, hung_chain, closes_chain, shut_chain, carries_chain, lcp_chain, opens_chain, rings_chain}
+use Rattle.end_model.specs.Recovering.{recovering_turns, hears_recovery}
+use Rattle.step_laws.proofs.Callers.{ring_no_tick}
+use Rattle.step_laws.proofs.Recovered.{IsNamedBy, line_leads, line_none}
 
 is_lac_role : (r : Role) → is_lac r ≡ true → r ≡ Lac
 is_lac_role Lac h = refl
@@ -157,7 +153,7 @@ module _ (e : End) (kept : AreKept e) (moment : ℕ) (block : List ℕ) where
   -- a packet of LCP is heard in its call
   lcp_heard : (ev : Event) (s peer i : ℕ) (frame : List ℕ) (o : Option Tunnel) → at e.tunnels i ≡ o
       → HearsLcp ev peer i s frame → IsStep e moment ev (in_main e env (Lcp s frame) i o)
-  unfolding in_main
+  unfolding in_main recovering_turns
   lcp_heard ev s peer i frame None is hears = drop_chain e kept moment ev why.Tunnel (λ q. absurd cc)
   lcp_heard ev s peer i frame (Some t) is hears =
       lcp_chain e kept moment ev block i t is s peer frame (subst (λ j. HearsLcp ev peer j s frame) (sym (kept.tunnels i t is).local) hears)
@@ -201,42 +197,44 @@ module _ (e : End) (kept : AreKept e) (moment : ℕ) (block : List ℕ) where
       → (o : Option Tunnel) → at e.tunnels i ≡ o → ((t : Tunnel) → o ≡ Some t → t.control.peer ≡ peer)
       → ((t : Tunnel) → o ≡ Some t → IsTo h bytes i t.control)
       → IsStep e moment (Datagram peer bytes) (in_main e env (Datagram peer bytes) i o)
-  unfolding in_main
+  unfolding in_main recovering_turns
   main_heard peer i bytes h read control None is goes to = drop_chain e kept moment (Datagram peer bytes) why.Tunnel (λ q. absurd cc)
   main_heard peer i bytes h read control (Some t) is goes to =
       subst (λ p. IsStep e moment (Datagram p bytes) (in_main e env (Datagram p bytes) i (Some t))) (goes t refl)
       (heard_chain e kept moment (Datagram t.control.peer bytes) block i t is bytes h read control refl (to t refl))
 
   main_rung : (ev : Event) (who : List ℕ) → IsRing ev who → (i : ℕ) → e.role ≡ Lac → IsChosen e i → (o : Option Tunnel) → at e.tunnels i ≡ o
-      → ((t : Tunnel) → o ≡ Some t → ((state_number t.control.state ≡ 3) ⊎ (state_number t.control.state ≡ 1)) × (t.control.peer ≡ e.config.lns))
+      → ((t : Tunnel) → o ≡ Some t → ((state_number t.control.state ≡ 3) ⊎ (state_number t.control.state ≡ 1)) × (t.control.peer ≡ e.config.lns)
+      × (is_current (mode_of t.recovery) ≡ true))
       → IsStep e moment ev (in_main e env ev i o)
-  unfolding in_main
+  unfolding in_main recovering_turns
   main_rung ev who ring i lac chosen None is goes = drop_chain e kept moment ev why.Tunnel (λ q. absurd cc)
-  main_rung ev who ring i lac chosen (Some t) is goes = rung_chain e kept moment ev block i t is who (goes t refl).0 chosen ring
-      (LacWants lac (goes t refl).1 (inr (who, ring)))
+  main_rung ev who ring i lac chosen (Some t) is goes =
+      rw (ring_no_tick ev who ring) (rung_chain e kept moment ev block i t is who (goes t refl).2 (goes t refl).0 chosen ring
+      (LacWants lac (goes t refl).1 (inr (who, ring))))
 
   main_payload : (s : ℕ) (frame : List ℕ) (i : ℕ) (o : Option Tunnel) → at e.tunnels i ≡ o → IsStep e moment (Payload s frame) (in_main e env (Payload s frame) i o)
-  unfolding in_main turns
+  unfolding in_main turns recovering_turns
   main_payload s frame i None is = drop_chain e kept moment (Payload s frame) why.Tunnel (λ q. absurd cc)
   main_payload s frame i (Some t) is = carries_chain e kept moment (Payload s frame) block i t is s frame (at t.calls s) refl (inl refl)
 
   main_lower : (s : ℕ) (frame : List ℕ) (i : ℕ) (o : Option Tunnel) → at e.tunnels i ≡ o → IsStep e moment (Lower s frame) (in_main e env (Lower s frame) i o)
-  unfolding in_main turns
+  unfolding in_main turns recovering_turns
   main_lower s frame i None is = drop_chain e kept moment (Lower s frame) why.Tunnel (λ q. absurd cc)
   main_lower s frame i (Some t) is = carries_chain e kept moment (Lower s frame) block i t is s frame (at t.calls s) refl (inr refl)
 
   main_hung : (s i : ℕ) (o : Option Tunnel) → at e.tunnels i ≡ o → IsStep e moment (Hang s) (in_main e env (Hang s) i o)
-  unfolding in_main
+  unfolding in_main recovering_turns
   main_hung s i None is = drop_chain e kept moment (Hang s) why.Tunnel (λ q. absurd cc)
   main_hung s i (Some t) is = hung_chain e kept moment (Hang s) block i t is s refl
 
   main_closed : (s i : ℕ) (o : Option Tunnel) → at e.tunnels i ≡ o → IsStep e moment (DropCall s) (in_main e env (DropCall s) i o)
-  unfolding in_main
+  unfolding in_main recovering_turns
   main_closed s i None is = drop_chain e kept moment (DropCall s) why.Tunnel (λ q. absurd cc)
   main_closed s i (Some t) is = closes_chain e kept moment (DropCall s) block i t is s refl
 
   main_shut : (i : ℕ) (o : Option Tunnel) → at e.tunnels i ≡ o → IsStep e moment (CloseTunnel i) (in_main e env (CloseTunnel i) i o)
-  unfolding in_main
+  unfolding in_main recovering_turns
   main_shut i None is = drop_chain e kept moment (CloseTunnel i) why.Tunnel (λ q. absurd cc)
   main_shut i (Some t) is = shut_chain e kept moment (CloseTunnel i) block i t is refl
 
@@ -245,6 +243,36 @@ module _ (e : End) (kept : AreKept e) (moment : ℕ) (block : List ℕ) where
   module _ (peer : ℕ) (bytes : List ℕ) (h : Header) (read : header_of bytes ≡ Ok h) (control : h.control ≡ true) where
     abbrev leads : Addressee → Type 0
     leads a = IsStep e moment (Datagram peer bytes) (for_addressee e env (Datagram peer bytes) peer h (body_of bytes h) a)
+
+    -- the message
+    abbrev came : Came
+    came = record { peer = peer; header = h; body = body_of bytes h }
+
+    came_in : CameIn (Datagram peer bytes) came
+    came_in = record { bytes = bytes; is = refl; read = read; control = control; body_is = refl }
+
+    abbrev IsNamed : Recovering → Type 0
+    IsNamed r = IsNamedBy r h
+
+    -- it comes for a recovery tunnel
+    line_of_id : (t : Tunnel) (r : Recovering) → t.control.peer ≡ peer → (connection_of r).local ≡ h.tunnel
+        → ComesToLine (Datagram peer bytes) t.control.peer (connection_of r) came × IsNamed r
+    line_of_id t (ByAttempt c) goes local = (record { came = came_in; peer_is = sym goes; line = inl (sym local) }, sym local)
+    line_of_id t (ByAnswer a) goes local = (record { came = came_in; peer_is = sym goes; line = inl (sym local) }, tt)
+
+    line_of_answer : h.tunnel ≡ 0 → (remote : ℕ) → (at_zero (body_of bytes h) ≡ Recovers remote) ⊎ (at_zero (body_of bytes h) ≡ Stops remote)
+        → (t : Tunnel) (r : Recovering) → t.control.peer ≡ peer → answers_to remote (Some r) ≡ true
+        → ComesToLine (Datagram peer bytes) t.control.peer (connection_of r) came × IsNamed r
+    line_of_answer zero remote says t (ByAttempt c) goes answers = absurd (true≢false (sym answers))
+    line_of_answer zero remote says t (ByAnswer a) goes answers =
+        let same = eqb-true a.connection.remote remote answers in (
+          record {
+            came = came_in;
+            peer_is = sym goes;
+            line = inr (zero, ⊎_elim (λ asks. inl (asks ∙ ap Recovers (sym same))) (λ stops. inr (stops ∙ ap Stops (sym same))) says);
+          },
+          tt,
+        )
 
     nobody : (w : Why) → (w ≡ why.Queue → ⊥) → leads (Nobody w)
     unfolding for_addressee
@@ -261,15 +289,76 @@ module _ (e : End) (kept : AreKept e) (moment : ℕ) (block : List ℕ) where
         main_heard peer i bytes h read control (at e.tunnels i) refl (known_peer peer remote (at e.tunnels i) known)
         (λ t there. inr (inl (record { none = zero; opens = opens ∙ ap Opens (sym (known_remote peer remote (at e.tunnels i) known t there)) })))
 
-    -- a StopCCN is for the tunnel whose peer assigned the id that it tells
-    stopped_leads : h.tunnel ≡ 0 → (remote : ℕ) → at_zero (body_of bytes h) ≡ Stops remote → (k : Option ℕ) → known_as peer remote e.tunnels ≡ k
-        → leads (stopped_at k)
+    -- ---- recovery tunnels
+
+    -- a message for the recovery tunnel of a tunnel
+    line_heard : (i : ℕ) (o : Option Tunnel) → at e.tunnels i ≡ o
+        → ((t : Tunnel) (r : Recovering) → o ≡ Some t → t.recovery ≡ Some r → ComesToLine (Datagram peer bytes) t.control.peer (connection_of r) came × IsNamed r)
+        → IsStep e moment (Datagram peer bytes) (in_recovery e env h (body_of bytes h) i o)
+    unfolding in_recovery
+    line_heard i None is goes = drop_chain e kept moment (Datagram peer bytes) why.Tunnel (λ q. absurd cc)
+    line_heard i (Some t) is goes = by t.recovery refl
+      where
+        by : (x : Option Recovering) → t.recovery ≡ x
+            → IsStep e moment (Datagram peer bytes) (after_both e i t (hears_recovery e.config t.letters t.calls h (body_of bytes h) x (turn_in t env)))
+        by None none = line_none e kept moment (Datagram peer bytes) block i t is none h (body_of bytes h)
+        by (Some r) has =
+            let g = goes t r refl has in
+            line_leads e kept moment (Datagram peer bytes) block i t is came r has g.0 g.1
+
+    -- of an answer of this tunnel's to the peer's attempt
+    answered_goes : h.tunnel ≡ 0 → (remote i : ℕ)
+        → (at_zero (body_of bytes h) ≡ Recovers remote) ⊎ (at_zero (body_of bytes h) ≡ Stops remote) → answered_to peer remote e.tunnels ≡ Some i
+        → (t : Tunnel) (r : Recovering) → at e.tunnels i ≡ Some t → t.recovery ≡ Some r → ComesToLine (Datagram peer bytes) t.control.peer (connection_of r) came × IsNamed r
+    unfolding answered_to
+    answered_goes zero remote i says is t r there has =
+        let found = found_passes (λ j. is_answered peer remote (at e.tunnels j)) (ids_of e.tunnels) i is in
+        let here : is_answered peer remote (Some t) ≡ true = subst (λ o. is_answered peer remote o ≡ true) there found in
+        let answers : answers_to remote (Some r) ≡ true = subst (λ o. answers_to remote o ≡ true) has (and_right (t.control.peer == peer) _ here) in
+        line_of_answer zero remote says t r (eqb-true t.control.peer peer (and_left (t.control.peer == peer) _ here)) answers
+
+    -- a StopCCN is for the tunnel whose peer assigned the id that it tells, or for the answer to the attempt with it
+    stopped_leads : h.tunnel ≡ 0 → (remote : ℕ) → at_zero (body_of bytes h) ≡ Stops remote → (k a : Option ℕ) → known_as peer remote e.tunnels ≡ k
+        → answered_to peer remote e.tunnels ≡ a → leads (stopped_at k a)
     unfolding for_addressee known_as
-    stopped_leads zero remote says None is = nobody why.Tunnel (λ q. absurd cc)
-    stopped_leads zero remote says (Some i) is =
+    stopped_leads zero remote says None None is none = nobody why.Tunnel (λ q. absurd cc)
+    stopped_leads zero remote says None (Some i) is answers =
+        line_heard i (at e.tunnels i) refl (λ t r there has. answered_goes zero remote i (inr says) answers t r there has)
+    stopped_leads zero remote says (Some i) a is answers =
         let known = found_passes (λ j. is_known peer remote (at e.tunnels j)) (ids_of e.tunnels) i is in
         main_heard peer i bytes h read control (at e.tunnels i) refl (known_peer peer remote (at e.tunnels i) known)
         (λ t there. inr (inr (record { none = zero; stops = says ∙ ap Stops (sym (known_remote peer remote (at e.tunnels i) known t there)) })))
+
+    -- an SCCRQ asks for a recovery, or comes again to the answer to it
+    recovered_leads : h.tunnel ≡ 0 → (remote : ℕ) → at_zero (body_of bytes h) ≡ Recovers remote → ZeroSays (body_of bytes h) (Recovers remote)
+        → (k : Option ℕ) → answered_to peer remote e.tunnels ≡ k → leads (answered_before remote k)
+    unfolding for_addressee
+    recovered_leads zero remote is says None none =
+        let o = says.1.0 in
+        let same = says.1.2 in
+        recovers_chain e kept moment peer bytes block h read control zero o says.1.1 (λ q. says.0 (same ∙ q))
+        (none_answered peer o.tunnel e.tunnels (subst (λ n. answered_to peer n e.tunnels ≡ None) same none)) says.1.3
+    recovered_leads zero remote is says (Some i) answers =
+        line_heard i (at e.tunnels i) refl (λ t r there has. answered_goes zero remote i (inl is) answers t r there has)
+
+    -- one that names the id of a recovery tunnel
+    named_line : (x : Option ℕ) → recovered_by h.tunnel e.tunnels ≡ x → leads (at_recovery e peer x)
+    unfolding for_addressee recovered_by
+    named_line None is = nobody why.Tunnel (λ q. absurd cc)
+    named_line (Some i) is = by (at e.tunnels i) refl
+      where
+        by : (o : Option Tunnel) → at e.tunnels i ≡ o → leads (at_line peer i o)
+        by None gone = nobody why.Tunnel (λ q. absurd cc)
+        by (Some t) there =
+            branch leads (t.control.peer == peer) _ _
+            (λ met. line_heard i (at e.tunnels i) refl (λ u r found has.
+            let found_i = found_passes (λ j. has_line h.tunnel (at e.tunnels j)) (ids_of e.tunnels) i is in
+            let line : has_line h.tunnel (Some u) ≡ true = subst (λ o. has_line h.tunnel o ≡ true) found found_i in
+            let both : Some t ≡ Some u = sym there ∙ found in
+            let same : t ≡ u = cc in
+            line_of_id u r (ap (λ (x : Tunnel). x.control.peer) (sym same) ∙ eqb-true t.control.peer peer met)
+            (eqb-true (connection_of r).local h.tunnel (subst (λ o. is_line h.tunnel o ≡ true) has line))))
+            (λ other. nobody why.Peer (λ q. absurd cc))
 
     -- an SCCRP is declined
     answered_leads : h.tunnel ≡ 0 → (remote : ℕ) → at_zero (body_of bytes h) ≡ Answers remote → (remote ≡ 0 → ⊥) → leads (Answers remote)
@@ -279,7 +368,9 @@ module _ (e : End) (kept : AreKept e) (moment : ℕ) (block : List ℕ) where
     zero_leads : h.tunnel ≡ 0 → (a : Addressee) → at_zero (body_of bytes h) ≡ a → ZeroSays (body_of bytes h) a → leads (opens_once e peer a)
     unfolding opens_once
     zero_leads zero (Opens remote) is says = opened_leads zero remote is says.0 says.1 (known_as peer remote e.tunnels) refl
-    zero_leads zero (Stops remote) is says = stopped_leads zero remote is (known_as peer remote e.tunnels) refl
+    zero_leads zero (Stops remote) is says = stopped_leads zero remote is (known_as peer remote e.tunnels) (answered_to peer remote e.tunnels) refl refl
+    zero_leads zero (Recovers remote) is says = recovered_leads zero remote is says (answered_to peer remote e.tunnels) refl
+    zero_leads zero (Recovery i) is says = absurd says
     zero_leads zero (Answers remote) is says = answered_leads zero remote is says
     zero_leads zero (Main i) is says = absurd says
     zero_leads zero (Nobody w) is says = nobody w says
@@ -299,7 +390,9 @@ module _ (e : End) (kept : AreKept e) (moment : ℕ) (block : List ℕ) where
     addressed_leads =
         branch leads (h.tunnel == 0) _ _
         (λ zero. zero_leads (eqb-true h.tunnel 0 zero) (at_zero (body_of bytes h)) refl (zero_says (body_of bytes h)))
-        (λ some. tunnel_leads (at e.tunnels h.tunnel) refl)
+        (λ some. branch leads (is_some (at e.tunnels h.tunnel)) _ _
+        (λ there. tunnel_leads (at e.tunnels h.tunnel) refl)
+        (λ gone. named_line (recovered_by h.tunnel e.tunnels) refl))
 
   received : (peer : ℕ) (bytes : List ℕ) (r : Result Header HeaderError) → header_of bytes ≡ r → IsStep e moment (Datagram peer bytes) (receives e env peer bytes r)
   unfolding receives hands_up
@@ -316,15 +409,19 @@ module _ (e : End) (kept : AreKept e) (moment : ℕ) (block : List ℕ) where
   unfolding rings_in in_one_more in_new
   rung ev who ring lac (Some i) opening is next =
       let least = least_open e kept i is in
-      main_rung ev who ring i lac (inl least) (at e.tunnels i) refl (λ t there. let l = least_is e Established i least t there in (inl l.0, l.1))
+      main_rung ev who ring i lac (inl least) (at e.tunnels i) refl (λ t there. let l = least_is e Established i least t there in (inl l.0, l.1, l.2))
   rung ev who ring lac None (Some i) is next =
       let least = least_opening e kept i next in
       main_rung ev who ring i lac (inr (none_open e kept is, least)) (at e.tunnels i) refl
-      (λ t there. let l = least_is e WaitCtlReply i least t there in (inr l.0, l.1))
+      (λ t there. let l = least_is e WaitCtlReply i least t there in (inr l.0, l.1, l.2))
   rung ev who ring lac None None is next =
+      branch (IsStep e moment ev) (are_recovering e.config.lns e.tunnels) _ _
+      (λ some. cause_chain e kept moment ev cause.Recovering (who, ring, none_open e kept is, none_opening e kept next, some_recover e kept some))
+      (λ none.
+      let new : RingsNew e ev = (who, ring, none_open e kept is, none_opening e kept next, none_recover e kept none) in
       branch (IsStep e moment ev) (has_all_tunnels e) _ _
-      (λ all. cause_chain e kept moment ev cause.Tunnels (inl (who, ring, none_open e kept is, none_opening e kept next), all))
-      (λ fewer. rings_chain e kept moment ev block e.config.lns who (LacWants lac refl (inr (who, ring))) ring (who, ring, none_open e kept is, none_opening e kept next) fewer)
+      (λ all. cause_chain e kept moment ev cause.Tunnels (inl new, all))
+      (λ fewer. rings_chain e kept moment ev block e.config.lns who (LacWants lac refl (inr (who, ring))) ring new fewer))
 
   gives_payload : (s : ℕ) (frame : List ℕ) (o : Option CallPlace) → IsStep e moment (Payload s frame) (for_call e env (Payload s frame) o)
   unfolding for_call

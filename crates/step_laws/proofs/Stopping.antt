@@ -18,7 +18,7 @@ use Rattle.tunnel_fsm.specs.Rows.{rows, row_of, state_number}
 use Rattle.end_model.specs.declared.tunnel.Call.{Call}
 use Rattle.end_model.specs.declared.event.Event.{Event}
 use Rattle.end_model.specs.Reading.{message_in, CallFault, call_fault_in, TunnelFault, tunnel_fault_in}
-use Rattle.end_model.specs.Tunnels.{Tunnel, Turn}
+use Rattle.end_model.specs.Tunnels.{Tunnel, Turn, Recovering}
 use Rattle.end_model.specs.Reasons.{Reason, out_of_order, fault_reason, no_secret}
 use Rattle.end_model.specs.Moments.{is_closed}
 use Rattle.end_model.specs.Messages.{is_acceptable, event_by, opening_reason, Told, tells_id, told_by}
@@ -161,28 +161,28 @@ closed_plain x u session m closed = by (eqb-true (state_number u.control.state) 
     by four (Fsq sessions) = tt
     by four (Fsr sessions) = tt
 
-module _ (e : End) (moment : ℕ) (ev : Event) (letters : List Letter) (calls : List (ℕ × Call)) (i : ℕ) where
+module _ (e : End) (moment : ℕ) (ev : Event) (letters : List Letter) (calls : List (ℕ × Call)) (recovery : Option Recovering) (i : ℕ) where
   abbrev Good : Turn → Type 0
-  Good t = Settled e moment ev letters calls i t
+  Good t = Settled e moment ev letters calls recovery i t
 
   abbrev Takes : Turn → Type 0
-  Takes t = Taking e moment ev letters calls i t
+  Takes t = Taking e moment ev letters calls recovery i t
 
   abbrev begun_at : (t : Turn) → Takes t → Tunnel
-  begun_at t f = begun e moment ev letters calls i t f.fresh
+  begun_at t f = begun e moment ev letters calls recovery i t f.fresh
 
   pub busy : (t : Turn) → Takes t → state_number t.control.state ≡ 0 → ⊥
   busy t f = f.fresh.good.stays.1
 
   -- the table has the tunnel closed, as it was before the step
   shut_on : (t : Turn) (f : Takes t) (on : TunnelEvent) → row_of rows t.control.state on ≡ shut_row → IsClosedOn e (begun_at t f) on
-  shut_on t f on row = record { id = i; there = f.fresh.there; row = ap (λ s. row_of rows s on) f.fresh.state ∙ row }
+  shut_on t f on row = record { id = i; there = f.fresh.there; current = f.fresh.good.current; row = ap (λ s. row_of rows s on) f.fresh.state ∙ row }
 
   abbrev pub now_at : Turn → Tunnel
-  now_at t = now e moment ev letters calls i t
+  now_at t = now e moment ev letters calls recovery i t
 
   came_in : (t : Turn) (f : Takes t) (session : ℕ) (m : Message) → HearsNext ev (now_at t) session m → HearsNext ev (begun_at t f) session m
-  came_in t f session m hears = hears_first e moment ev letters calls i t f.fresh session m hears
+  came_in t f session m hears = hears_first e moment ev letters calls recovery i t f.fresh session m hears
 
   -- ---- the tunnel is closed, and then the letter is taken, as a closed tunnel takes each
 
@@ -198,23 +198,23 @@ module _ (e : End) (moment : ℕ) (ev : Event) (letters : List Letter) (calls : 
   unfolding closed_told shuts gives with_output with_move
   told_closed r t = rw (all_ended_is (ids_of calls) _) refl
 
-  shut_plain : (r : Reason) (t : Turn) (k : Came) → IsNext ev (now_at t) k → PlainAt e moment ev letters calls i (told r t)
+  shut_plain : (r : Reason) (t : Turn) (k : Came) → IsNext ev (now_at t) k → PlainAt e moment ev letters calls recovery i (told r t)
   shut_plain r t k next = record {
     letter = k;
     next = comes_still r t k next;
-    why = λ m reads. closed_plain (at_turn e moment ev letters calls i (told r t)) (tunnel_after (told r t) letters calls) k.header.session m (told_closed r t);
+    why = λ m reads. closed_plain (at_turn e moment ev letters calls recovery i (told r t)) (tunnel_after (told r t) letters calls recovery) k.header.session m (told_closed r t);
     spare = λ live. absurd (true≢false (sym (told_closed r t) ∙ live));
   }
 
   taken_shut_ok : (r : Reason) → Stands e moment ev r.cause → (on : TunnelEvent) (t : Turn) → Takes t → (k : Came) → IsNext ev (now_at t) k
-      → row_of rows t.control.state on ≡ shut_row → Why e moment ev letters calls i t on r t.control.remote
-      → TurnOk e moment ev letters calls i (takes_plain (closes_tunnel r calls t.control.remote state.Closed t))
+      → row_of rows t.control.state on ≡ shut_row → Why e moment ev letters calls recovery i t on r t.control.remote
+      → TurnOk e moment ev letters calls recovery i (takes_plain (closes_tunnel r calls t.control.remote state.Closed t))
   unfolding closes_tunnel
   taken_shut_ok r so on t f k next row why =
-      branch (λ (u : Turn). TurnOk e moment ev letters calls i (takes_plain u)) (has_room t.control) _ _
-      (λ room. plain_ok e moment ev letters calls i (told r t) (shut_plain r t k next)
-      (told_ok e moment ev letters calls i r so on t.control.remote t f.fresh.changed row why room f.fresh.good))
-      (λ full. absurd (is_roomy e moment ev letters calls i t f.live f.fresh.good full))
+      branch (λ (u : Turn). TurnOk e moment ev letters calls recovery i (takes_plain u)) (has_room t.control) _ _
+      (λ room. plain_ok e moment ev letters calls recovery i (told r t) (shut_plain r t k next)
+      (told_ok e moment ev letters calls recovery i r so on t.control.remote t f.fresh.changed row why room f.fresh.good))
+      (λ full. absurd (is_roomy e moment ev letters calls recovery i t f.live f.fresh.good full))
 
   -- why a letter closes it
   abbrev WhyLetter : Turn → Came → TunnelEvent → Reason → ℕ → Type 0
@@ -229,14 +229,14 @@ module _ (e : End) (moment : ℕ) (ev : Event) (letters : List Letter) (calls : 
   shuts_ok r so on says t f k next row why =
       subst (λ (x : TunnelState × TunnelAction). Good (takes_by e.role e.config calls r says x t)) (sym row)
       (branch Good (state_number t.control.state == 1) _ _
-      (λ one. unsent e moment ev letters calls i _
-      (rejects_ok e moment ev letters calls i r so on says.remote t f.fresh.changed f.live row (eqb-true (state_number t.control.state) 1 one) k next
-      (spare_first e moment ev letters calls i t f) why f.fresh.good))
+      (λ one. unsent e moment ev letters calls recovery i _
+      (rejects_ok e moment ev letters calls recovery i r so on says.remote t f.fresh.changed f.live row (eqb-true (state_number t.control.state) 1 one) k next
+      (spare_first e moment ev letters calls recovery i t f) why f.fresh.good))
       (λ two.
       let other = eqb-false (state_number t.control.state) 1 two in
-      unsent e moment ev letters calls i _
+      unsent e moment ev letters calls recovery i _
       (taken_shut_ok r so on t f k next row
-      (λ m to known result error. ByLetter says.remote k next (spare_first e moment ev letters calls i t f) (rw (result, error) why) other known))))
+      (λ m to known result error. ByLetter says.remote k next (spare_first e moment ev letters calls recovery i t f) (rw (result, error) why) other known))))
 
   -- ---- messages that the table has no good use for
 
@@ -308,14 +308,14 @@ module _ (e : End) (moment : ℕ) (ev : Event) (letters : List Letter) (calls : 
     scccn_wrong_ok is hears =
         let wrong = wrong_of 3 e.config.secret t.control.challenge response is in
         let row = row_shut t.control.state event.ScccnNotAcc (busy t f) f.live tt in
-        let so = inr (record {
+        let so = inr (inl (record {
           tunnel = begun_at t f;
           session = session;
           response = response;
           came = came_in t f session (Scccn response) hears;
           wrong = rw f.fresh.challenge wrong;
           closed = shut_on t f event.ScccnNotAcc row;
-        }) in
+        })) in
         shuts_ok no_secret so event.ScccnNotAcc (tells_id 0) t f
         hears.letter hears.next row (ByScccn response hears.says.said refl (WronglyConnected wrong refl refl refl))
 
@@ -326,7 +326,7 @@ module _ (e : End) (moment : ℕ) (ev : Event) (letters : List Letter) (calls : 
   unfolding takes_by
   says_stop_ok r says t f k next stops =
       subst (λ (x : TunnelState × TunnelAction). Good (takes_by e.role e.config calls r says x t)) (sym (row_stop t.control.state))
-      (unsent e moment ev letters calls i _ (heard_shut_ok e moment ev letters calls i t f.fresh.changed f.live k next (spare_first e moment ev letters calls i t f) stops f.fresh.good))
+      (unsent e moment ev letters calls recovery i _ (heard_shut_ok e moment ev letters calls recovery i t f.fresh.changed f.live k next (spare_first e moment ev letters calls recovery i t f) stops f.fresh.good))
 
   pub stop_ok : (session id code : ℕ) (error : Option ℕ) (t : Turn) → Takes t → HearsNext ev (now_at t) session (StopCcn id code error)
       → Good (takes_by e.role e.config calls out_of_order (tells_id 0) (row_of rows t.control.state event.StopCcnCame) t)
@@ -343,7 +343,7 @@ module _ (e : End) (moment : ℕ) (ev : Event) (letters : List Letter) (calls : 
           closing_stands e moment ev g.cause is.cause (record {
             tunnel = begun_at t f;
             letter = k;
-            next = next_first e moment ev letters calls i t f.fresh k next;
+            next = next_first e moment ev letters calls recovery i t f.fresh k next;
             fault = is.fault;
             on = g.event;
             event_is = is.event_is;
@@ -375,6 +375,6 @@ module _ (e : End) (moment : ℕ) (ev : Event) (letters : List Letter) (calls : 
         → (q : Option TunnelFault) → tunnel_fault_in k.body ≡ q
         → Good (hears_faulty e.role e.config calls k.header.session o q w t)
     unfolding hears_faulty takes
-    faulty_heard_ok (Some c) has q is = in_faulty_call_ok e moment ev letters calls i t f k next w unread c has
+    faulty_heard_ok (Some c) has q is = in_faulty_call_ok e moment ev letters calls recovery i t f k next w unread c has
     faulty_heard_ok None has (Some g) is = fault_ok g is g.event refl (of_tunnel k.body g is).event
-    faulty_heard_ok None has None is = unknown_ok e moment ev letters calls i t f k next w unread
+    faulty_heard_ok None has None is = unknown_ok e moment ev letters calls recovery i t f k next w unread

@@ -2,7 +2,7 @@
 use Rattle.std.proofs.Common.{◌≡◌, ◌⊎◌, inl, inr, ⊎_elim, ℕ, ◌<◌, Bool, true, false, cond, List, [], ◌∷◌, ◌++◌, refl, sym, ap, ◌∙◌, subst, Option, Some, None, Result, Ok, Err}
 use Rattle.std.proofs.lemmas.Bool.{true≢false, eq-eqb, lt-ltb}
 use Rattle.std.proofs.lemmas.Option.{none-some}
-use Rattle.std.specs.Prelude.{◌==◌, nat_lt, unwrap_or}
+use Rattle.std.specs.Prelude.{◌==◌, nat_lt, unwrap_or, not}
 use Rattle.std.specs.List.{flat_map}
 use Rattle.id_table.specs.Ids.{at, ids_of}
 use Rattle.wire_base.specs.declared.why.Why.{Why}
@@ -33,7 +33,7 @@ use Rattle.end_model.specs.declared.moves.Move.TheVariants as move
 use Rattle.end_model.specs.Reading.{message_in, CallFault, call_fault_in, TunnelFault, tunnel_fault_in}
 use Rattle.end_model.specs.Messages.{tells_id}
 use Rattle.end_model.specs.Calls.{call_row, row_for, row_of_none, is_connection, is_told, is_up, is_clean_up}
-use Rattle.end_model.specs.Tunnels.{Turn, Tunnel, turn_of}
+use Rattle.end_model.specs.Tunnels.{Turn, Tunnel, turn_in, is_current}
 use Rattle.end_model.specs.Reasons.{Reason, out_of_state, fault_reason, fault_error}
 use Rattle.end_model.specs.Turn.{with_output, with_move, with_change, drops, ends_call}
 use Rattle.end_model.specs.Sending.{gives, takes_one, takes_plain, reads_nr, settles}
@@ -53,7 +53,7 @@ use Rattle.step_laws.specs.Faults.{IsAboutCall}
 use Rattle.step_laws.specs.Moves.{fault_event}
 use Rattle.step_laws.specs.Steps.{AreKept}
 use Rattle.step_laws.specs.Tables.{IsRefused, IsStopped, ByClosing, ByRejecting, RowIsDone, CallIsDone, session_meant, FaultIsDone, TunnelIsDone, FaultsAreDone, LetterIsDone, BringsNext, IsTaken, TablesAreDone}
-use Rattle.step_laws.proofs.Lists.{branch, among_left, among_right}
+use Rattle.step_laws.proofs.Lists.{branch, among_left, among_right, not_true}
 use Rattle.step_laws.proofs.Owing.{spare_room}
 use Rattle.step_laws.proofs.Shutting.{all_ended_is}
 use Rattle.step_laws.proofs.Faults.{call_fault}
@@ -116,6 +116,14 @@ pick_is (move.Negotiated y) m a = absurd a
 pick_is (move.Counted y) m a = absurd a
 pick_is (move.FrameSent y) m a = absurd a
 pick_is (move.FrameUp y) m a = absurd a
+pick_is (move.Restored y) m a = absurd a
+pick_is (move.Forgot y) m a = absurd a
+pick_is (move.Froze y) m a = absurd a
+pick_is (move.ResetAttempting y) m a = absurd a
+pick_is (move.ResetAnswering y) m a = absurd a
+pick_is (move.RecoveryWentOn i) m a = absurd a
+pick_is (move.RecoveryEnded i) m a = absurd a
+pick_is (move.Ignored i) m a = absurd a
 
 unpicked : (m : Move) (ms : List Move) → Among m (flat_map picks ms) → Among m ms
 unpicked m [] a = absurd a
@@ -206,6 +214,7 @@ module _ (ms ns : List Move) (more : (m : Move) → picks m ≡ m ∷ [] → Amo
 pub record IsRoomy (i : ℕ) (t : Turn) : Type 0 where
   pub local : t.control.local ≡ i
   pub room : has_room t.control ≡ true
+  pub current : is_current t.on.mode ≡ true
 
 last : {X : Type 0} (xs : List X) (x : X) → Among x (xs ++ x ∷ [])
 last xs x = among_right x xs (x ∷ []) (inl refl)
@@ -219,12 +228,14 @@ module _ (i : ℕ) where
       → RowIsDone a i s result error (ends_by for result error s c a t).moves
   unfolding ends_by end_told end_silent gives ends_call with_output with_change with_move
   ends_done for result s error c call_action.SendCdn t h =
-      branch (λ (u : Turn). RowIsDone call_action.SendCdn i s result error u.moves) (has_room t.control) _ _
+      branch (λ (u : Turn). RowIsDone call_action.SendCdn i s result error u.moves) (not (is_current t.on.mode)) _ _
+      (λ inactive. absurd (true≢false (sym h.current ∙ not_true _ inactive)))
+      (λ active. branch (λ (u : Turn). RowIsDone call_action.SendCdn i s result error u.moves) (has_room t.control) _ _
       (λ may. record {
         told = λ row. record { told = _; there = last t.moves _; tunnel = h.local; session = refl; result_is = refl; error_is = refl };
         silent = λ row. absurd cc;
       })
-      (λ full. full_none t h full)
+      (λ full. full_none t h full))
   ends_done for result s error c call_action.CleanUp t h = record {
     told = λ row. absurd cc;
     silent = λ row. record { silent = _; there = last t.moves _; tunnel = h.local; session = refl };
@@ -237,7 +248,7 @@ module _ (i : ℕ) where
 
   plain_roomy : (t : Turn) → IsRoomy i t → IsRoomy i (takes_plain t)
   unfolding takes_plain with_move takes_one
-  plain_roomy t h = record { local = h.local; room = h.room }
+  plain_roomy t h = record { local = h.local; room = h.room; current = h.current }
 
   answers_done : (r : Reason) (s : ℕ) (c : Call) (a : CallAction) (t : Turn) → IsRoomy i t → s < 65536
       → RowIsDone a i s r.result r.error (answers_by r s c a t).moves
@@ -534,7 +545,7 @@ module _ (e : End) (kept : AreKept e) (sound : AreSound e) (moment : ℕ) (block
   Good ms outs = IsTaken e moment ev r ms → IsDone ms
 
   abbrev read_turn : Turn
-  read_turn = reads_nr (unwrap_or r.letter.header.nr 0) (turn_of r.tunnel.control (env_of e moment block))
+  read_turn = reads_nr (unwrap_or r.letter.header.nr 0) (turn_in r.tunnel (env_of e moment block))
 
   abbrev heard : Turn
   heard = hears_letter e.role e.config r.tunnel.calls r.letter.header.session body_of_it (Some Next) read_turn
@@ -548,6 +559,7 @@ module _ (e : End) (kept : AreKept e) (sound : AreSound e) (moment : ℕ) (block
       (record {
         local = (kept.tunnels r.id r.tunnel r.there).local;
         room = spare_room (counts_acked (unwrap_or r.letter.header.nr 0) moment r.tunnel.control) r.tunnel.calls may;
+        current = r.current;
       })
       refl (λ s c live. sound r.id r.tunnel r.there s c live) body_of_it r.live)
       (λ full is. ⊎_elim
@@ -567,7 +579,7 @@ module _ (e : End) (kept : AreKept e) (sound : AreSound e) (moment : ℕ) (block
       e r.tunnel r.id r.letter.header.session (call_fault_in body_of_it) (tunnel_fault_in body_of_it) (message_in body_of_it) (heard_done (settled_taken is))
 
   all_done : Good (plain_step e moment block ev).moves (plain_step e moment block ev).outputs
-  all_done = reached e kept moment block ev r.id r.tunnel r.there r.letter r.next r.named Good settled_good
+  all_done = reached e kept moment block ev r.id r.tunnel r.there r.current r.letter r.next r.named Good settled_good
 
 pub tables_are_done : TablesAreDone
 tables_are_done e kept sound moment block ev r taken = all_done e kept sound moment block ev r taken

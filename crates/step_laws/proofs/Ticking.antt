@@ -1,6 +1,6 @@
 -- A tunnel's tick is a chain of moves.
-use Rattle.std.proofs.Common.{◌≡◌, arith, ℕ, ◌+◌, ◌^◌, ◌<◌, ◌≤◌, Bool, true, false, cond, List, [], ◌∷◌, refl, sym, ap, ◌∙◌, subst, Option, Some, None}
-use Rattle.std.proofs.lemmas.Bool.{eqb-true, ltb-true}
+use Rattle.std.proofs.Common.{◌≡◌, ⊎_elim, inl, arith, ℕ, ◌+◌, ◌^◌, ◌<◌, ◌≤◌, Bool, true, false, cond, List, [], ◌∷◌, refl, sym, ap, ◌∙◌, subst, Option, Some, None}
+use Rattle.std.proofs.lemmas.Bool.{eqb-true, ltb-true, true≢false}
 use Rattle.std.proofs.lemmas.List.{append-nil}
 use Rattle.std.specs.Prelude.{◌==◌, ◌&&◌, nat_lt}
 use Rattle.std.specs.List.{AllByRecursion}
@@ -23,7 +23,7 @@ use Rattle.call_link.specs.Laws.{LinkStep, turn_at}
 use Rattle.end_model.specs.declared.event.Event.TheVariants.{Tick}
 use Rattle.end_model.specs.declared.moves.Move.TheVariants as move
 use Rattle.end_model.specs.Calls.{row_for, is_set_up, is_up}
-use Rattle.end_model.specs.Tunnels.{Tunnel, Turn, new_tunnel}
+use Rattle.end_model.specs.Tunnels.{Tunnel, Turn, Recovering, is_current, new_tunnel}
 use Rattle.end_model.specs.Turn.{with_move}
 use Rattle.end_model.specs.Events.{with_calls, tunnel_after}
 use Rattle.end_model.specs.Channels.{has_room, place, next_place, letter_of, counts_repeated}
@@ -39,8 +39,8 @@ use Rattle.step_laws.proofs.Lists.{all_push, and_left, and_right, branch, chain_
 use Rattle.step_laws.proofs.Moments.{passed, not_up}
 use Rattle.step_laws.proofs.Owing.{Fits, live_open, some_owed, fits_given, owes_told}
 use Rattle.step_laws.specs.Letters.{HasOutput}
-use Rattle.step_laws.proofs.Turns.{Held, given_held, at_turn, there, one_given, Others, Same, same_still, same_first}
-use Rattle.step_laws.proofs.Settling.{Settled, outs_on, sent_ok, settled_ok}
+use Rattle.step_laws.proofs.Turns.{IsCurrent, Held, given_held, at_turn, there, one_given, Others, Same, same_still, same_first}
+use Rattle.step_laws.proofs.Settling.{Settled, outs_on, sent_ok, settled_so}
 use Rattle.step_laws.proofs.Closing.{given_on, ends_leave}
 use Rattle.step_laws.proofs.Keeping.{sent_keeps, settled_keeps}
 use Rattle.step_laws.proofs.Linking.{IsLinked, ended_stands, links_leave}
@@ -57,6 +57,14 @@ module _ (n : Numbers) (moment : ℕ) where
       branch (λ (x : Numbers). x.window.acked ≡ n.window.acked) n.frozen _ _
       (λ frozen. refl)
       (λ free. branch (λ (w : Window). w.acked ≡ n.window.acked) (sending.due_at n.window moment && nat_lt n.window.repetitions 5) _ _ (λ due. refl) (λ no. refl))
+
+  -- a frozen channel repeats nothing
+  frozen_none : (number : ℕ) → n.frozen ≡ true → answer_to_tick n moment ≡ tick.Again number → ⊥
+  frozen_none number frozen due = by n.frozen frozen due
+    where
+      by : (a : Bool) → a ≡ true → cond a tick.Quiet (sending.answer_to_tick n.window moment) ≡ tick.Again number → ⊥
+      by true is e = absurd cc
+      by false is e = true≢false (sym is)
 
   held_repeated : (ls : List Letter) → Held n.window ls → Held (ticked_at n moment).window ls
   held_repeated ls h =
@@ -84,9 +92,9 @@ small_due n moment number small h = by n.frozen (sending.due_at n.window moment)
     by false true false e = absurd cc
     by false false c e = absurd cc
 
-module _ (e : End) (moment : ℕ) (letters : List Letter) (calls : List (ℕ × Call)) (i : ℕ) where
+module _ (e : End) (moment : ℕ) (letters : List Letter) (calls : List (ℕ × Call)) (recovery : Option Recovering) (i : ℕ) where
   abbrev tunnel : Turn → Tunnel
-  tunnel t = tunnel_after t letters calls
+  tunnel t = tunnel_after t letters calls recovery
 
   -- a turn that drew no id and made no call
   pub record DrawsNone (t : Turn) : Type 0 where
@@ -94,7 +102,7 @@ module _ (e : End) (moment : ℕ) (letters : List Letter) (calls : List (ℕ × 
     pub added : t.added ≡ []
 
   pub record Ticking (t : Turn) : Type 0 where
-    pub settled : Settled e moment Tick letters calls i t
+    pub settled : Settled e moment Tick letters calls recovery i t
     pub none : DrawsNone t
 
   -- its end
@@ -102,7 +110,7 @@ module _ (e : End) (moment : ℕ) (letters : List Letter) (calls : List (ℕ × 
   settling_ok t h =
       let k = settled_keeps false letters t in
       record {
-        settled = settled_ok e moment Tick letters calls i false t h.settled;
+        settled = settled_so e moment Tick letters calls recovery i t h.settled;
         none = record { ids = k.ids ∙ h.none.ids; added = k.added ∙ h.none.added };
       }
 
@@ -116,21 +124,28 @@ module _ (e : End) (moment : ℕ) (letters : List Letter) (calls : List (ℕ × 
   repeated number t =
       with_move (move.Repeated (record { tunnel = t.control.local; sent = place number })) (record t { control = counts_repeated t.on.moment t.control })
 
-  repeated_ok : (number : ℕ) (t : Turn) → answer_to_tick t.control.channel moment ≡ tick.Again number → Settled e moment Tick letters calls i t
-      → Settled e moment Tick letters calls i (repeated number t)
+  repeated_current : (number : ℕ) (t : Turn) → answer_to_tick t.control.channel moment ≡ tick.Again number → Settled e moment Tick letters calls recovery i t
+      → IsCurrent recovery
+  repeated_current number t due h =
+      ⊎_elim (λ current. current)
+      (λ (k : (t.control.channel.frozen ≡ true) × (t.took ≡ false)). absurd (frozen_none t.control.channel moment number k.0 due)) h.goes
+
+  repeated_ok : (number : ℕ) (t : Turn) → answer_to_tick t.control.channel moment ≡ tick.Again number → Settled e moment Tick letters calls recovery i t
+      → Settled e moment Tick letters calls recovery i (repeated number t)
   unfolding with_move
   repeated_ok number t due h =
       let m = move.Repeated (record { tunnel = t.control.local; sent = place number }) in
       record {
-        chain = chain_more moment Tick e (at_turn e moment Tick letters calls i t) _ t.moves m h.chain (record {
+        chain = chain_more moment Tick e (at_turn e moment Tick letters calls recovery i t) _ t.moves m h.chain (record {
           tunnel = tunnel t;
-          there = there e moment Tick letters calls i t;
+          there = there e moment Tick letters calls recovery i t;
+          current = repeated_current number t due h;
           number = number;
           due = due;
           sent = refl;
           after = rw (h.stays.4, put-put e.tunnels t.control.local (tunnel t) _) refl;
         });
-        outs = outs_on e moment Tick letters calls i t (repeated number t) (record {
+        outs = outs_on e moment Tick letters calls recovery i t (repeated number t) (record {
           local = refl;
           peer = refl;
           remote = refl;
@@ -138,10 +153,12 @@ module _ (e : End) (moment : ℕ) (letters : List Letter) (calls : List (ℕ × 
           inbox = inbox_stays t.control.channel t.on.moment;
           more = [];
           letters = sym (append-nil (tunnel t).letters);
+          recovery = refl;
         }) (m ∷ []) refl h;
         tells = h.tells;
         frames = all_push (HasOutput t.outputs) t.moves m h.frames tt;
         stays = h.stays;
+        goes = inl (repeated_current number t due h);
         held = held_repeated t.control.channel t.on.moment (letters_after t letters) h.held;
         fits = fits_repeated t.control t.on.moment (with_calls t.changed calls) h.fits;
       }
@@ -152,7 +169,7 @@ module _ (e : End) (moment : ℕ) (letters : List Letter) (calls : List (ℕ × 
       let u = repeated number t in
       let k = sent_keeps number (letter_in letters u number) u in
       record {
-        settled = sent_ok e moment Tick letters calls i number u (letter_in letters u number)
+        settled = sent_ok e moment Tick letters calls recovery i number u (letter_in letters u number)
             (small_due t.control.channel moment number h.settled.held.2 due) refl (repeated_ok number t due h.settled);
         none = record { ids = k.ids ∙ h.none.ids; added = k.added ∙ h.none.added };
       }
@@ -164,32 +181,34 @@ module _ (e : End) (moment : ℕ) (letters : List Letter) (calls : List (ℕ × 
   empty_room : (t : Turn) → t.control.channel.window.queued ≡ 0 → has_room t.control ≡ true
   empty_room t none = rw none refl
 
-  hello_ok : (t : Turn) → state_number t.control.state ≡ 3 → t.control.channel.window.queued ≡ 0 → t.control.heard + 60000 ≤ moment → Ticking t
+  hello_ok : (t : Turn) → IsCurrent recovery → state_number t.control.state ≡ 3 → t.control.channel.window.queued ≡ 0 → t.control.heard + 60000 ≤ moment → Ticking t
       → Ticking (hello t)
   unfolding gives with_move
-  hello_ok t is_open quiet over k =
+  hello_ok t current is_open quiet over k =
       let room = empty_room t quiet in
       let m = move.Greeted (record { tunnel = t.control.local; given = next_place t.control }) in
       let h = k.settled in
       let l = letter_of 0 Hello in
       record {
         settled = record {
-          chain = chain_more moment Tick e (at_turn e moment Tick letters calls i t) _ t.moves m h.chain (record {
+          chain = chain_more moment Tick e (at_turn e moment Tick letters calls recovery i t) _ t.moves m h.chain (record {
             tunnel = tunnel t;
-            there = there e moment Tick letters calls i t;
+            there = there e moment Tick letters calls recovery i t;
+            current = current;
             ticks = refl;
             open_is = is_open;
             quiet = quiet;
             over = over;
             room = room;
             given = refl;
-            after = rw (one_given e moment Tick letters calls i t l, put-put e.tunnels t.control.local (tunnel t) _) refl;
+            after = rw (one_given e moment Tick letters calls recovery i t l, put-put e.tunnels t.control.local (tunnel t) _) refl;
           });
-          outs = outs_on e moment Tick letters calls i t (hello t) (given_on e moment Tick letters calls i t (hello t) l refl refl refl refl refl refl) (m ∷ []) refl h;
+          outs = outs_on e moment Tick letters calls recovery i t (hello t) (given_on e moment Tick letters calls recovery i t (hello t) l refl refl refl refl refl refl) (m ∷ []) refl h;
           tells = h.tells;
           frames = all_push (HasOutput t.outputs) t.moves m h.frames tt;
           stays = h.stays;
-          held = given_held e moment Tick letters calls i t l h.held;
+          goes = h.goes;
+          held = given_held e moment Tick letters calls recovery i t l h.held;
           fits =
               let least = h.fits.3 is_open in
               fits_given t.control (with_calls t.changed calls) (live_open t.control is_open) h.fits.0 h.fits.1 (omega (arith, quiet, least));
@@ -200,7 +219,7 @@ module _ (e : End) (moment : ℕ) (letters : List Letter) (calls : List (ℕ × 
   -- what the end of one call leaves
   record Limited (s : ℕ) (t u : Turn) : Type 0 where
     ok : Ticking u
-    others : Others e moment Tick letters calls i s t u
+    others : Others e moment Tick letters calls recovery i s t u
 
   -- ---- what stays of a tunnel whose channel hasn't failed
 
@@ -215,14 +234,18 @@ module _ (e : End) (moment : ℕ) (letters : List Letter) (calls : List (ℕ × 
   greets_ok : (t : Turn) → t.changed ≡ [] → Ticking t → Greeting (greets letters t)
   unfolding greets greeted
   greets_ok t none h =
-      branch Greeting (state_number t.control.state == 3 && t.control.channel.window.queued == 0 && is_over patience t.on.moment t.control.heard) _ _
+      branch Greeting (state_number t.control.state == 3 && is_current t.on.mode && t.control.channel.window.queued == 0 && is_over patience t.on.moment t.control.heard) _ _
       (λ due.
       let open_is = state_number t.control.state == 3 in
+      let active = is_current t.on.mode in
       let empty = t.control.channel.window.queued == 0 in
-      let both = and_left (open_is && empty) _ due in
+      let both = and_left (open_is && active && empty) _ due in
+      let first = and_left (open_is && active) empty both in
       record {
-        ok = settling_ok (hello t) (hello_ok t (eqb-true (state_number t.control.state) 3 (and_left open_is empty both))
-            (eqb-true t.control.channel.window.queued 0 (and_right open_is empty both)) (over_at t.control.heard t h (and_right (open_is && empty) _ due)) h);
+        ok = settling_ok (hello t) (hello_ok t (sym (ap is_current h.settled.stays.6) ∙ and_right open_is active first)
+            (eqb-true (state_number t.control.state) 3 (and_left open_is active first))
+            (eqb-true t.control.channel.window.queued 0 (and_right (open_is && active) empty both))
+            (over_at t.control.heard t h (and_right (open_is && active && empty) _ due)) h);
         changed = (settled_keeps false letters (hello t)).changed ∙ hello_changed t ∙ none;
       })
       (λ no. record { ok = h; changed = none })
@@ -233,18 +256,18 @@ module _ (e : End) (moment : ℕ) (letters : List Letter) (calls : List (ℕ × 
 
   -- ---- calls that take too long, of the tunnel that is there
 
-  module _ (first : Control) (is_there : at e.tunnels i ≡ Some (record (new_tunnel first) { letters = letters; calls = calls })) where
+  module _ (first : Control) (is_there : at e.tunnels i ≡ Some (record (new_tunnel first) { letters = letters; calls = calls; recovery = recovery })) where
     abbrev begun : Tunnel
-    begun = record (new_tunnel first) { letters = letters; calls = calls }
+    begun = record (new_tunnel first) { letters = letters; calls = calls; recovery = recovery }
 
     limited : (s : ℕ) (c : Call) (t : Turn) → at calls s ≡ Some c → at (with_calls t.changed calls) s ≡ Some c → TookTooLong Tick moment c → is_set_up c.state ≡ true → s < 65536 → Ticking t
         → Limited s t (settles false letters (ends_by cause.Setup 10 None s c (row_for e.role c call_event.Close).1 t))
     limited s c t live found late set_up small h =
         let u = ends_by cause.Setup 10 None s c (row_for e.role c call_event.Close).1 t in
-        let l = ends_leave e moment Tick letters calls i cause.Setup s c call_event.Close 10 None t found (IsLate late refl refl refl) small
-        (λ told. (
+        let l = ends_leave e moment Tick letters calls recovery i cause.Setup s c call_event.Close 10 None t found (IsLate late refl refl refl) small
+        (λ told current. (
           owes_told t.control (with_calls t.changed calls) s c found (some_owed c.state set_up) h.settled.fits,
-          record { id = i; tunnel = begun; there = is_there; session = s; call = c; live = live; late = late; row = told },
+          record { id = i; tunnel = begun; there = is_there; current = current; session = s; call = c; live = live; late = late; row = told },
         ))
         (row_for e.role c call_event.Close).1 refl h.settled in
         record {
@@ -260,13 +283,14 @@ module _ (e : End) (moment : ℕ) (letters : List Letter) (calls : List (ℕ × 
         → is_up c.state ≡ true → s < 65536 → Ticking t → Limited s t (links e.role letters s c (turn_at (called_in t) l) t)
     timed s c l t live found has up small h =
         let by = called_in t in
-        let k : IsLinked e moment Tick letters calls i s c l by t =
+        let k : IsLinked e moment Tick letters calls recovery i s c l by t =
         record { found = found; has = has; up = up; at_moment = h.settled.stays.4; called = ForTime refl refl } in
-        let left = links_leave e moment Tick letters calls i s c l by t k small
-        (λ why ends told. ended_stands e moment Tick by l why ends (record {
+        let left = links_leave e moment Tick letters calls recovery i s c l by t k small
+        (λ why ends told current. ended_stands e moment Tick by l why ends (record {
           id = i;
           tunnel = begun;
           there = is_there;
+          current = current;
           session = s;
           call = c;
           live = live;
@@ -304,17 +328,17 @@ module _ (e : End) (moment : ℕ) (letters : List Letter) (calls : List (ℕ × 
         }) (and_right (nat_lt s 65536) (is_set_up c.state) both) (ltb-true s 65536 (and_left (nat_lt s 65536) (is_set_up c.state) both)) h)
         (λ no. linked s c t live found c.link refl h)
 
-    limits_all_ok : (es : List (ℕ × Call)) → Ascends es → (t : Turn) → AllByRecursion (Same e moment Tick letters calls i t) es → Ticking t
+    limits_all_ok : (es : List (ℕ × Call)) → Ascends es → (t : Turn) → AllByRecursion (Same e moment Tick letters calls recovery i t) es → Ticking t
         → Ticking (limits_all e.role letters (ids_of es) calls t)
     unfolding limits_all Ascends
     limits_all_ok [] sorted t same h = h
     limits_all_ok (x ∷ es) sorted t same h =
         let u = limits_at e.role letters x.0 (at calls x.0) t in
         let l = limits_at_ok x.0 (at calls x.0) t refl same.0 h in
-        limits_all_ok es sorted.1 u (same_still e moment Tick letters calls i x.0 t u l.others es sorted.0 same.1) l.ok
+        limits_all_ok es sorted.1 u (same_still e moment Tick letters calls recovery i x.0 t u l.others es sorted.0 same.1) l.ok
 
     pub quietly_ok : Ascends calls → (t : Turn) → t.changed ≡ [] → Ticking t → Ticking (goes_quietly e.role letters calls t)
     unfolding goes_quietly
     quietly_ok sorted t none h =
         let g = greets_ok t none h in
-        limits_all_ok calls sorted (greets letters t) (same_first e moment Tick letters calls i (greets letters t) g.changed calls) g.ok
+        limits_all_ok calls sorted (greets letters t) (same_first e moment Tick letters calls recovery i (greets letters t) g.changed calls) g.ok

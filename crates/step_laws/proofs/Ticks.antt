@@ -1,62 +1,47 @@
 -- An end's tick is a chain of moves: those of each tunnel by itself, one tunnel after the other.
-use Rattle.std.proofs.Common.{◌≡◌, ℕ, List, [], ◌∷◌, ◌++◌, refl, sym, ap, ◌∙◌, subst, Option, Some, None, arith}
-use Rattle.std.proofs.lemmas.List.{append-nil, append_assoc}
-use Rattle.std.specs.Prelude.{map}
+use Rattle.std.proofs.Common.{◌≡◌, inl, ℕ, Bool, true, false, List, [], ◌∷◌, ◌++◌, length, refl, sym, ap, ◌∙◌, subst, Option, Some, None, is_some, arith}
+use Rattle.std.proofs.lemmas.Bool.{true≢false}
+use Rattle.std.specs.Prelude.{nat_le, nat_lt}
 use Rattle.std.specs.List.{AllByRecursion, flat_map}
-use Rattle.id_table.specs.Ids.{at, without, ids_of}
-use Rattle.id_table.specs.Order.{IsAbove, Ascends, at_other, ascends-without, at_without_other, found_without}
+use Rattle.id_table.specs.Ids.{at, ids_of}
+use Rattle.id_table.specs.Order.{IsAbove, Ascends, at_other, at_without_other}
+use Rattle.wire_base.specs.declared.letter.Letter.{Letter}
 use Rattle.send_window.specs.declared.window.Tick.{Tick as Due}
 use Rattle.send_window.specs.declared.window.Tick.TheVariants.{Quiet, Again, Failed}
+use Rattle.send_window.specs.Window.{due_at}
+use Rattle.send_window.specs.Outbox.{letter_at}
 use Rattle.control_channel.specs.Numbers.{answer_to_tick}
-use Rattle.session_looks.specs.declared.look.CellChange.TheVariants as cell
+use Rattle.control_channel.specs.Channel.{Channel, ticked_at, answer_to_tick as channel_tick}
+use Rattle.recovery_tunnel.specs.Connections.{ControlConnection, is_failure, is_lost}
+use Rattle.recovery_tunnel.specs.Answers.{is_kept_long as is_long}
+use Rattle.end_model.specs.declared.tunnel.Call.{Call}
 use Rattle.end_model.specs.declared.event.Event.TheVariants.{Tick}
-use Rattle.end_model.specs.declared.out.Out.TheVariants.{Gone}
+use Rattle.end_model.specs.declared.out.Out.{Out}
 use Rattle.end_model.specs.declared.moves.Move.TheVariants as move
-use Rattle.end_model.specs.Tunnels.{Drawing, Tunnel, Env, Turn, turn_of}
-use Rattle.end_model.specs.Turn.{with_output, with_move, with_change, ends_call, ends_all}
-use Rattle.end_model.specs.Ticking.{clears, ticks_by, ticks}
+use Rattle.end_model.specs.Tunnels.{Drawing, Tunnel, Env, Turn, turn_in, Recovering, ByAttempt, ByAnswer, connection_of, is_finished}
+use Rattle.end_model.specs.Turn.{with_output, with_move, ends_all}
+use Rattle.end_model.specs.Ticking.{ticks_by, ticks}
+use Rattle.end_model.specs.Stopping.{clears}
 use Rattle.end_model.specs.Sending.{repeats}
 use Rattle.end_model.specs.Moments.{is_at_its_end, is_open}
-use Rattle.end_model.specs.Events.{turns, tunnel_after}
-use Rattle.end_model.specs.End.{drawing_of, End, env_of, placed, with_looks, after_turn, Turned, tick_of, ticks_of, end_after_all, after_all, ticks_all}
+use Rattle.end_model.specs.Events.{turns, tunnel_after, with_calls}
+use Rattle.end_model.specs.Recovering.{RecoveryTurn, with_recovery, recovery_letter, repeats_on, ticked, is_kept_long, ticks_on, without_recovery, recovery_ticks, recovering_turns}
+use Rattle.end_model.specs.End.{drawing_of, End, env_of, tunnels_after, after_turn, after_both, Turned, tick_of, ticks_of, end_after_all, after_all, ticks_all}
 use Rattle.step_laws.specs.Failing.{HasFailed, IsUnanswered}
-use Rattle.step_laws.specs.Moves.{Chain}
+use Rattle.step_laws.specs.Letters.{IsRecoveryLetter}
+use Rattle.step_laws.specs.Moves.{ByRecovery, ByTime, HasFailedItself}
 use Rattle.step_laws.specs.Steps.{IsKept, AreKept, IsChain}
-use Rattle.step_laws.proofs.Lists.{all_append, all_map, all_push, branch, ascends_looks}
+use Rattle.step_laws.proofs.Lists.{all_append, all_map, branch, or_left}
 use Rattle.step_laws.proofs.Tells.{Tells}
-use Rattle.step_laws.specs.Letters.{HasOutput}
-use Rattle.step_laws.proofs.Turns.{IsWord}
-use Rattle.step_laws.proofs.Settling.{unsent}
-use Rattle.step_laws.proofs.Sending.{word_is, both_chain}
+use Rattle.step_laws.proofs.Shutting.{all_ended_is}
+use Rattle.step_laws.proofs.Settling.{OutOk}
+use Rattle.step_laws.proofs.Sending.{both_chain}
 use Rattle.step_laws.proofs.Moments.{ended_failed, given_up}
 use Rattle.step_laws.proofs.Ticking.{Ticking, quietly_ok, repeats_ok, repeated_changed}
-use Rattle.step_laws.proofs.Ends.{IsStep, left_is, turn_chain, begins}
-
--- ---- a tunnel is removed with its calls
-
-record Ended (e : End) (moment : ℕ) (ss : List ℕ) (t u : Turn) : Type 0 where
-  ids : u.ids ≡ t.ids
-  added : u.added ≡ t.added
-  moves : u.moves ≡ t.moves
-  changes : u.changes ≡ t.changes ++ map cell.Kill ss
-  words : AllByRecursion IsWord u.outputs
-  tells : AllByRecursion (Tells e moment Tick) u.outputs
-
-ended_ok : (e : End) (moment : ℕ) (ss : List ℕ) (t : Turn) → AllByRecursion IsWord t.outputs → AllByRecursion (Tells e moment Tick) t.outputs
-    → Ended e moment ss t (ends_all ss t)
-unfolding ends_all ends_call with_output with_change
-ended_ok e moment [] t h so =
-    record { ids = refl; added = refl; moves = refl; changes = sym (append-nil t.changes); words = h; tells = so }
-ended_ok e moment (s ∷ ss) t h so =
-    let k = ended_ok e moment ss (ends_call s t) (all_push IsWord t.outputs (Gone s) h tt) (all_push _ t.outputs (Gone s) so tt) in
-    record {
-      ids = k.ids;
-      added = k.added;
-      moves = k.moves;
-      changes = k.changes ∙ append_assoc t.changes (cell.Kill s ∷ []) (map cell.Kill ss);
-      words = k.words;
-      tells = k.tells;
-    }
+use Rattle.step_laws.proofs.Leaving.{IsStep, whole_of, whole_chain, clears_chain, ends_line}
+use Rattle.step_laws.proofs.OnLine.{on_channel, WholeAt, got_all, letter_ok, out_line}
+use Rattle.step_laws.proofs.Ends.{begins_settled, removed_step}
+use Rattle.step_laws.proofs.Recovered.{channel_letter, own_channel, own_alike, is_cleared, went_on}
 
 -- ---- one tunnel
 
@@ -77,120 +62,236 @@ record Ticked (e : End) (moment i : ℕ) (r : Turn) (y : End) : Type 0 where
   like : Like e y
   others : (j : ℕ) → (j ≡ i → ⊥) → at y.tunnels j ≡ at e.tunnels j
 
+-- calls that end draw no id
+all_ids : (ss : List ℕ) (t : Turn) → (ends_all ss t).ids ≡ t.ids
+all_ids ss t = ap (λ (u : Turn). u.ids) (all_ended_is ss t)
+
+clears_ids : (calls : List (ℕ × Call)) (t : Turn) → (clears calls t).ids ≡ t.ids
+unfolding clears with_move
+clears_ids calls t = all_ids (ids_of calls) (with_move (move.Cleared t.control.local (is_open t.control.state)) t)
+
+letter_ids : (c : ControlConnection) (number : ℕ) (o : Option Letter) (t : Turn) → (recovery_letter c number o t).ids ≡ t.ids
+unfolding recovery_letter with_output
+letter_ids c number None t = refl
+letter_ids c number (Some l) t = branch (λ (u : Turn). u.ids ≡ t.ids) (nat_le (length l.avps) 65523) _ _ (λ fits. refl) (λ long. refl)
+
+repeats_ids : (a : Due) (r : Recovering) (t : Turn) → (repeats_on a r t).ids ≡ t.ids
+unfolding repeats_on with_move
+repeats_ids Quiet r t = refl
+repeats_ids (Again number) r t = letter_ids (connection_of r) number (letter_at (connection_of r).channel.outbox number) (with_move (move.RecoveryWentOn t.control.local) t)
+repeats_ids (Failed first) r t = refl
+
+-- the tunnel's own channel answers nothing that isn't due
+not_due : (c : Channel) (moment : ℕ) → ((number : ℕ) → channel_tick c moment ≡ Again number → ⊥) → is_failure (channel_tick c moment) ≡ false → ticked_at c moment ≡ c
+not_due c moment never fails = by c.frozen (due_at c.outbox.window moment) (nat_lt c.outbox.window.repetitions 5) refl refl refl
+  where
+    by : (a b d : Bool) → c.frozen ≡ a → due_at c.outbox.window moment ≡ b → nat_lt c.outbox.window.repetitions 5 ≡ d → ticked_at c moment ≡ c
+    by true b d frozen due more = rw frozen refl
+    by false false d frozen due more = rw (frozen, due) refl
+    by false true true frozen due more = absurd (never c.outbox.window.acked (rw (frozen, due, more) refl))
+    by false true false frozen due more = absurd (true≢false (sym (rw (frozen, due, more) refl) ∙ fails))
+
 module _ (e : End) (kept : AreKept e) (moment : ℕ) (block : List ℕ) (i : ℕ) (t : Tunnel) (is : at e.tunnels i ≡ Some t) where
-  k : IsKept i t
+  abbrev k : IsKept i t
   k = kept.tunnels i t is
 
   abbrev start : Turn
-  start = turn_of t.control (env_of e moment block)
+  start = turn_in t (env_of e moment block)
 
-  abbrev left : Turn → End
-  left r = (after_turn e i t.letters t.calls r).end
+  abbrev W : Option Recovering → Turn → Type 0
+  W recovery u = WholeAt e kept moment Tick t.letters t.calls i k.some recovery u
 
-  abbrev leads : Turn → Type 0
-  leads r = Ticked e moment i r (left r)
+  abbrev steps : RecoveryTurn → Type 0
+  steps x = IsStep e moment Tick (after_both e i t x)
 
-  like_left : (r : Turn) → r.ids ≡ drawing_of e → Like e (left r)
+  -- what a turn leads to, with its recovery tunnel
+  abbrev leads : RecoveryTurn → Type 0
+  leads x = Ticked e moment i x.turn (after_both e i t x).end
+
+  others_after : (b : Bool) (u : Tunnel) (j : ℕ) → (j ≡ i → ⊥) → at (tunnels_after e.tunnels i b u) j ≡ at e.tunnels j
+  others_after true u j o = at_without_other e.tunnels i j o
+  others_after false u j o = at_other e.tunnels i u j o
+
+  ticked_so : (x : RecoveryTurn) → steps x → x.turn.ids ≡ drawing_of e → leads x
   unfolding after_turn
-  like_left r ids = record {
-    role = refl;
-    config = refl;
-    tunnels = ap (λ (d : Drawing). d.tunnels) ids;
-    sessions = ap (λ (d : Drawing). d.sessions) ids;
-    recoveries = refl;
-  }
-
-  ticking_leads : (r : Turn) → Ticking e moment t.letters t.calls i r → leads r
-  unfolding after_turn
-  ticking_leads r h =
-      let s = h.settled in
-      let after = tunnel_after r t.letters t.calls in
-      record {
-        step = turn_chain e kept moment Tick t.letters t.calls i k.some r s;
-        like = like_left r h.none.ids;
-        others = λ j o.
-            ap (λ (x : End). at x.tunnels j) (left_is e kept moment Tick t.letters t.calls i k.some r s.stays.5) ∙ at_other e.tunnels i after j o;
-      }
-
-  abbrev gone : End
-  gone = record e { tunnels = without e.tunnels i; calls = with_looks (map cell.Kill (ids_of t.calls)) e.calls }
-
-  -- the turn in which the tunnel is removed
-  abbrev removed : Turn
-  removed = ends_all (ids_of t.calls) (with_move (move.Cleared t.control.local (is_open t.control.state)) start)
-
-  removed_ok : Ended e moment (ids_of t.calls) (with_move (move.Cleared t.control.local (is_open t.control.state)) start) removed
-  unfolding with_move
-  removed_ok = ended_ok e moment (ids_of t.calls) (with_move (move.Cleared t.control.local (is_open t.control.state)) start) tt tt
-
-  removed_moves : removed.moves ≡ move.Cleared t.control.local (is_open t.control.state) ∷ []
-  unfolding with_move
-  removed_moves = removed_ok.moves
-
-  gone_is : left (clears t.calls start) ≡ gone
-  unfolding after_turn clears with_move placed
-  gone_is = rw (removed_ok.ids, removed_ok.added, removed_ok.changes) refl
-
-  kept_gone : AreKept gone
-  kept_gone = record {
-    tunnels = λ j u found. kept.tunnels j u (found_without e.tunnels i j u kept.order found).1;
-    order = ascends-without i e.tunnels kept.order;
-    places = ascends_looks (map cell.Kill (ids_of t.calls)) e.calls kept.places;
-    sessions = kept.sessions;
-    first = kept.first;
-  }
-
-  cleared_to_gone : HasFailed moment t.control → Ticked e moment i (clears t.calls start) gone
-  unfolding clears
-  cleared_to_gone failed = record {
-    step = record {
-      chain = record {
-        chain = subst (λ ms. Chain moment Tick e ms gone) (sym removed_moves) (
-          gone,
-          record {
-            tunnel = t;
-            there = subst (λ j. at e.tunnels j ≡ Some t) (sym k.local) is;
-            ticks = refl;
-            failed = failed;
-            established = refl;
-            after = ap (λ j. record e { tunnels = without e.tunnels j; calls = with_looks (map cell.Kill (ids_of t.calls)) e.calls }) (sym k.local);
-          },
-          refl,
-        );
-        outputs = all_map _ _ (word_is moment Tick e removed.moves gone) removed.outputs removed_ok.words;
-        frames = subst (AllByRecursion (HasOutput removed.outputs)) (sym removed_moves) (tt, tt);
-        kept = kept_gone;
-      };
-      tells = removed_ok.tells;
+  ticked_so x step ids = record {
+    step = step;
+    like = record {
+      role = refl;
+      config = refl;
+      tunnels = ap (λ (d : Drawing). d.tunnels) ids;
+      sessions = ap (λ (d : Drawing). d.sessions) ids;
+      recoveries = ap (λ (d : Drawing). d.recoveries) ids;
     };
-    like = record { role = refl; config = refl; tunnels = refl; sessions = refl; recoveries = refl };
-    others = λ j o. at_without_other e.tunnels i j o;
+    others = λ j o. others_after x.turn.cleared (tunnel_after x.turn t.letters t.calls x.recovery) j o;
   }
 
-  cleared_leads : HasFailed moment t.control → leads (clears t.calls start)
-  cleared_leads failed = subst (Ticked e moment i (clears t.calls start)) (sym gone_is) (cleared_to_gone failed)
+  -- ---- its recovery tunnel
 
-  begun : Ticking e moment t.letters t.calls i start
+  module _ (r : Recovering) (u : Turn) (h : W (Some r) u) where
+    abbrev c : ControlConnection
+    c = connection_of r
+
+    now_is : u.on.moment ≡ moment
+    now_is = h.stays.4
+
+    abbrev own_letters : AllByRecursion (IsRecoveryLetter i r) c.channel.outbox.letters
+    own_letters = h.recovering r refl
+
+    -- what was sent stays so where its channel alone changes
+    sent_line : (channel : Channel) (o : Out) → OutOk (tunnel_after u t.letters t.calls (Some r)) u.moves o
+        → OutOk (tunnel_after u t.letters t.calls (Some (on_channel channel r))) (u.moves ++ move.RecoveryWentOn u.control.local ∷ []) o
+    sent_line channel o is = out_line e kept moment Tick t.letters t.calls i k.some r channel u (move.RecoveryWentOn u.control.local ∷ []) o is
+
+    -- the letter goes again, whatever its channel is then
+    again_at : (number : ℕ) (channel : Channel) → AllByRecursion (IsRecoveryLetter i r) channel.outbox.letters
+        → W (Some (on_channel channel r)) (repeats_on (Again number) r u)
+    unfolding repeats_on
+    again_at number channel says =
+        let q = on_channel channel r in
+        letter_ok e kept moment Tick t.letters t.calls i k.some q c (own_alike channel r) number (letter_at c.channel.outbox number)
+        (with_move (move.RecoveryWentOn u.control.local) u)
+        (λ l got. channel_letter i channel r l (got_all (IsRecoveryLetter i r) c.channel.outbox.letters _ l own_letters got))
+        (went_on e kept moment Tick block i t is r u channel c.closed c.remote (inl refl) says
+        (all_map _ _ (sent_line channel) u.outputs h.outs) h)
+
+    -- with the same channel, or one that has had its timer
+    repeated_same : (a : Due) → W (Some r) (repeats_on a r u)
+    unfolding repeats_on
+    repeated_same Quiet = h
+    repeated_same (Failed first) = h
+    repeated_same (Again number) = subst (λ (q : Recovering). W (Some q) (repeats_on (Again number) r u)) (own_channel r) (again_at number c.channel own_letters)
+
+    ticked_letters : AllByRecursion (IsRecoveryLetter i r) (ticked_at c.channel moment).outbox.letters
+    ticked_letters = branch (λ (x : Channel). AllByRecursion (IsRecoveryLetter i r) x.outbox.letters) c.channel.frozen _ _ (λ frozen. own_letters) (λ free. own_letters)
+
+    repeated_ticked : (a : Due) → channel_tick c.channel moment ≡ a → is_failure a ≡ false → W (Some (on_channel (ticked_at c.channel moment) r)) (repeats_on a r u)
+    unfolding repeats_on
+    repeated_ticked Quiet due fails =
+        subst (λ (x : Channel). W (Some (on_channel x r)) u) (sym (not_due c.channel moment (λ number again. absurd cc) (ap is_failure due ∙ fails)))
+        (subst (λ (q : Recovering). W (Some q) u) (sym (own_channel r)) h)
+    repeated_ticked (Failed first) due fails = absurd (true≢false fails)
+    repeated_ticked (Again number) due fails = again_at number (ticked_at c.channel moment) ticked_letters
+
+    -- that is due
+    abbrev due_line : Due
+    due_line = channel_tick c.channel u.on.moment
+
+    abbrev again : Turn
+    again = repeats_on due_line r u
+
+    lost_steps : is_lost u.on.moment c ≡ true → steps (with_recovery r (clears (with_calls again.changed t.calls) again))
+    lost_steps lost =
+        clears_chain e kept moment Tick t.letters t.calls (Some r) i k.some again (Some r) (repeated_same due_line)
+        (ByRecovery r refl (ByTime refl (ap (λ m. is_lost m c) (sym now_is) ∙ lost)))
+
+    long_finished : (q : Recovering) (m : ℕ) → is_kept_long m q ≡ true → is_finished q ≡ true
+    long_finished (ByAttempt d) m long = absurd (true≢false (sym long))
+    long_finished (ByAnswer a) m long = by a.connection.reset long
+      where
+        by : (o : Option ℕ) → is_long m o ≡ true → is_some o ≡ true
+        by None long = absurd (true≢false (sym long))
+        by (Some at) long = refl
+
+    line_steps : steps (ticks_on t.calls r u)
+    unfolding ticks_on without_recovery
+    line_steps =
+        branch steps (is_lost u.on.moment c) _ _
+        (λ lost. lost_steps lost)
+        (λ going. branch steps (is_kept_long u.on.moment r) _ _
+        (λ long. ends_line e kept moment Tick t.letters t.calls (Some r) i k.some again (repeated_same due_line) r refl (long_finished r u.on.moment long))
+        (λ young. whole_chain e kept moment Tick t.letters t.calls (Some (ticked u.on.moment r)) i k.some again
+        (subst (λ m. W (Some (on_channel (ticked_at c.channel m) r)) again) (sym now_is)
+        (subst (λ m. W (Some (on_channel (ticked_at c.channel moment) r)) (repeats_on (channel_tick c.channel m) r u)) (sym now_is)
+        (repeated_ticked (channel_tick c.channel moment) refl (subst (λ m. is_failure (channel_tick c.channel m) ≡ false) now_is (or_left _ _ going)))))))
+
+    line_ids : u.ids ≡ drawing_of e → (ticks_on t.calls r u).turn.ids ≡ drawing_of e
+    unfolding ticks_on without_recovery with_move
+    line_ids ids =
+        let same = repeats_ids due_line r u ∙ ids in
+        branch (λ (x : RecoveryTurn). x.turn.ids ≡ drawing_of e) (is_lost u.on.moment c) _ _
+        (λ lost. clears_ids (with_calls again.changed t.calls) again ∙ same)
+        (λ going. branch (λ (x : RecoveryTurn). x.turn.ids ≡ drawing_of e) (is_kept_long u.on.moment r) _ _ (λ long. same) (λ young. same))
+
+  -- ---- a turn of the tunnel, with its recovery tunnel behind it
+
+  -- that isn't removed
+  with_line : (u : Turn) → Ticking e moment t.letters t.calls t.recovery i u → leads (recovery_ticks t.calls t.recovery u)
+  unfolding recovery_ticks
+  with_line u h = by t.recovery refl
+    where
+      whole : W t.recovery u
+      whole = whole_of e kept moment Tick t.letters t.calls t.recovery i k.some u k.recovering h.settled
+
+      by : (o : Option Recovering) → t.recovery ≡ o → leads (recovery_ticks t.calls o u)
+      by None none =
+          ticked_so (record { turn = u; recovery = None })
+          (whole_chain e kept moment Tick t.letters t.calls None i k.some u (subst (λ o. W o u) none whole)) h.none.ids
+      by (Some r) has =
+          branch leads u.cleared _ _
+          (λ cleared. absurd (true≢false (sym cleared ∙ h.settled.stays.5)))
+          (λ there. let w = subst (λ o. W o u) has whole in ticked_so (ticks_on t.calls r u) (line_steps r u w) (line_ids r u w h.none.ids))
+
+  -- or that is
+  cleared_leads : HasFailed moment t.control → leads (recovery_ticks t.calls t.recovery (clears t.calls start))
+  unfolding recovery_ticks
+  cleared_leads failed = by t.recovery refl
+    where
+      stepped : (left : Option Recovering) → steps (record { turn = clears t.calls start; recovery = left })
+      stepped left = removed_step e kept moment Tick block i t is left (HasFailedItself refl failed)
+
+      by : (o : Option Recovering) → t.recovery ≡ o → leads (recovery_ticks t.calls o (clears t.calls start))
+      by None none = ticked_so (record { turn = clears t.calls start; recovery = None }) (stepped None) (clears_ids t.calls start)
+      by (Some r) has =
+          branch leads (clears t.calls start).cleared (with_recovery r (clears t.calls start)) (ticks_on t.calls r (clears t.calls start))
+          (λ gone. ticked_so (with_recovery r (clears t.calls start)) (stepped (Some r)) (clears_ids t.calls start))
+          (λ there. absurd (true≢false (sym (is_cleared t.calls start) ∙ there)))
+
+  begun : Ticking e moment t.letters t.calls t.recovery i start
   begun = record {
-    settled = unsent e moment Tick t.letters t.calls i start (begins e kept moment Tick block i t is).good;
+    settled = begins_settled e kept moment Tick block i t is;
     none = record { ids = refl; added = refl };
   }
 
-  ticks_by_lead : (a : Due) → answer_to_tick t.control.channel moment ≡ a → leads (ticks_by e.role t.letters t.calls a start)
+  abbrev leads_by : Turn → Type 0
+  leads_by u = leads (recovery_ticks t.calls t.recovery u)
+
+  ticks_by_lead : (a : Due) → answer_to_tick t.control.channel moment ≡ a → leads_by (ticks_by e.role t.letters t.calls a start)
   unfolding ticks_by
-  ticks_by_lead Quiet due = ticking_leads _ (quietly_ok e moment t.letters t.calls i t.control is k.calls start refl begun)
+  ticks_by_lead Quiet due = with_line _ (quietly_ok e moment t.letters t.calls t.recovery i t.control is k.calls start refl begun)
   ticks_by_lead (Again number) due =
-      ticking_leads _
-      (quietly_ok e moment t.letters t.calls i t.control is k.calls (repeats t.letters number start) (repeated_changed e moment t.letters t.calls i number start refl)
-      (repeats_ok e moment t.letters t.calls i number start due begun))
+      with_line _
+      (quietly_ok e moment t.letters t.calls t.recovery i t.control is k.calls (repeats t.letters number start) (repeated_changed e moment t.letters t.calls t.recovery i number start refl)
+      (repeats_ok e moment t.letters t.calls t.recovery i number start due begun))
   ticks_by_lead (Failed first) due = cleared_leads (IsUnanswered (given_up moment t.control.channel first due))
 
-  tick_leads : leads (turns e.role e.config t.letters t.calls Tick start)
-  unfolding turns ticks
+  tick_leads : leads (recovering_turns e.role e.config t Tick start)
+  unfolding turns ticks recovering_turns
   tick_leads =
-      branch leads (is_at_its_end moment t.control) _ _
+      branch leads_by (is_at_its_end moment t.control) _ _
       (λ due. cleared_leads (ended_failed moment t.control due))
       (λ no. ticks_by_lead (answer_to_tick t.control.channel moment) refl)
+
+  -- ---- the turn of the tunnel itself, where it isn't removed
+
+  whole_by : (a : Due) → answer_to_tick t.control.channel moment ≡ a → (ticks_by e.role t.letters t.calls a start).cleared ≡ false
+      → W t.recovery (ticks_by e.role t.letters t.calls a start)
+  unfolding ticks_by
+  whole_by Quiet due stays =
+      whole_of e kept moment Tick t.letters t.calls t.recovery i k.some _ k.recovering
+      (quietly_ok e moment t.letters t.calls t.recovery i t.control is k.calls start refl begun).settled
+  whole_by (Again number) due stays =
+      whole_of e kept moment Tick t.letters t.calls t.recovery i k.some _ k.recovering
+      (quietly_ok e moment t.letters t.calls t.recovery i t.control is k.calls (repeats t.letters number start) (repeated_changed e moment t.letters t.calls t.recovery i number start refl)
+      (repeats_ok e moment t.letters t.calls t.recovery i number start due begun)).settled
+  whole_by (Failed first) due stays = absurd (true≢false (sym (is_cleared t.calls start) ∙ stays))
+
+  pub tick_whole : (turns e.role e.config t.letters t.calls Tick start).cleared ≡ false → W t.recovery (turns e.role e.config t.letters t.calls Tick start)
+  unfolding turns ticks
+  tick_whole =
+      branch (λ (u : Turn). u.cleared ≡ false → W t.recovery u) (is_at_its_end moment t.control) _ _
+      (λ due stays. absurd (true≢false (sym (is_cleared t.calls start) ∙ stays)))
+      (λ no. whole_by (answer_to_tick t.control.channel moment) refl)
 
 -- ---- all of them
 
@@ -199,8 +300,8 @@ module _ (moment : ℕ) where
   abbrev AllTicked : End → List Turned → Type 0
   AllTicked x ts = IsChain x moment Tick (record {
     end = end_after_all ts x;
-    outputs = flat_map (λ t. t.turn.outputs) ts;
-    moves = flat_map (λ t. t.turn.moves) ts;
+    outputs = flat_map (λ t. t.turn.turn.outputs) ts;
+    moves = flat_map (λ t. t.turn.turn.moves) ts;
   })
 
   none_ticked : (x : End) → AreKept x → AllTicked x []
@@ -209,15 +310,15 @@ module _ (moment : ℕ) where
 
   -- the first, and then the rest
   one_ticked : (i : ℕ) (x : End) (first : Turned) (ts : List Turned) (y : End)
-      → y ≡ (after_turn x first.id first.tunnel.letters first.tunnel.calls first.turn).end → Ticked x moment i first.turn y → AllTicked y ts
+      → y ≡ (after_both x first.id first.tunnel first.turn).end → Ticked x moment i first.turn.turn y → AllTicked y ts
       → AllTicked x (first ∷ ts)
   unfolding end_after_all
   one_ticked i x first ts y is h rest =
       let same : end_after_all (first ∷ ts) x ≡ end_after_all ts y = ap (end_after_all ts) (sym is) in
-      let outs = flat_map (λ (t : Turned). t.turn.outputs) ts in
-      let ms = flat_map (λ (t : Turned). t.turn.moves) ts in
-      subst (λ z. IsChain x moment Tick (record { end = z; outputs = first.turn.outputs ++ outs; moves = first.turn.moves ++ ms })) (sym same)
-      (both_chain moment Tick x (record { end = y; outputs = first.turn.outputs; moves = first.turn.moves })
+      let outs = flat_map (λ (t : Turned). t.turn.turn.outputs) ts in
+      let ms = flat_map (λ (t : Turned). t.turn.turn.moves) ts in
+      subst (λ z. IsChain x moment Tick (record { end = z; outputs = first.turn.turn.outputs ++ outs; moves = first.turn.turn.moves ++ ms })) (sym same)
+      (both_chain moment Tick x (record { end = y; outputs = first.turn.turn.outputs; moves = first.turn.turn.moves })
       (record { end = end_after_all ts y; outputs = outs; moves = ms }) h.step.chain rest)
 
   module _ (e : End) (block : List ℕ) where
@@ -229,7 +330,7 @@ module _ (moment : ℕ) where
 
     -- the turn of a tunnel that is as it was
     as_it_was : (x : End) → Like e x → (t : Tunnel)
-        → turns x.role x.config t.letters t.calls Tick (turn_of t.control (env_of x moment block)) ≡ turns e.role e.config t.letters t.calls Tick (turn_of t.control env)
+        → recovering_turns x.role x.config t Tick (turn_in t (env_of x moment block)) ≡ recovering_turns e.role e.config t Tick (turn_in t env)
     as_it_was x like t = rw (like.role, like.config, like.tunnels, like.sessions, like.recoveries) refl
 
     untouched_on : (q : ℕ × Tunnel) (x y : End) → ((j : ℕ) → (j ≡ q.0 → ⊥) → at y.tunnels j ≡ at x.tunnels j) → (es : List (ℕ × Tunnel))
@@ -246,10 +347,10 @@ module _ (moment : ℕ) where
         → AllByRecursion (Untouched x) (q ∷ es) → (o : Option Tunnel) → at e.tunnels q.0 ≡ o → AllTicked x (tick_of e env q.0 o ++ ts)
     first_ticked q es above ts rest x like kept same None is = rest x like kept same.1
     first_ticked q es above ts rest x like kept same (Some t) is =
-        let r = turns e.role e.config t.letters t.calls Tick (turn_of t.control env) in
-        let y = (after_turn x q.0 t.letters t.calls r).end in
-        let h : Ticked x moment q.0 r y =
-        subst (λ r. Ticked x moment q.0 r (after_turn x q.0 t.letters t.calls r).end) (as_it_was x like t) (tick_leads x kept moment block q.0 t (same.0 ∙ is)) in
+        let r = recovering_turns e.role e.config t Tick (turn_in t env) in
+        let y = (after_both x q.0 t r).end in
+        let h : Ticked x moment q.0 r.turn y =
+        subst (λ (r : RecoveryTurn). Ticked x moment q.0 r.turn (after_both x q.0 t r).end) (as_it_was x like t) (tick_leads x kept moment block q.0 t (same.0 ∙ is)) in
         one_ticked q.0 x (record { id = q.0; tunnel = t; turn = r }) ts y refl h
         (rest y (like_on e x y like h.like) h.step.chain.kept (untouched_on q x y h.others es above same.1))
 
@@ -266,12 +367,12 @@ module _ (moment : ℕ) where
     -- what is told is so of each tunnel as the step began
     module _ (kept : AreKept e) where
       tick_tells : (i : ℕ) (o : Option Tunnel) → at e.tunnels i ≡ o → (ts : List Turned)
-          → AllByRecursion (Tells e moment Tick) (flat_map (λ (t : Turned). t.turn.outputs) ts)
-          → AllByRecursion (Tells e moment Tick) (flat_map (λ (t : Turned). t.turn.outputs) (tick_of e env i o ++ ts))
+          → AllByRecursion (Tells e moment Tick) (flat_map (λ (t : Turned). t.turn.turn.outputs) ts)
+          → AllByRecursion (Tells e moment Tick) (flat_map (λ (t : Turned). t.turn.turn.outputs) (tick_of e env i o ++ ts))
       tick_tells i None is ts h = h
       tick_tells i (Some t) is ts h = all_append _ _ _ (tick_leads e kept moment block i t is).step.tells h
 
-      ticks_tell : (ids : List ℕ) → AllByRecursion (Tells e moment Tick) (flat_map (λ (t : Turned). t.turn.outputs) (ticks_of e env ids))
+      ticks_tell : (ids : List ℕ) → AllByRecursion (Tells e moment Tick) (flat_map (λ (t : Turned). t.turn.turn.outputs) (ticks_of e env ids))
       unfolding ticks_of
       ticks_tell [] = tt
       ticks_tell (i ∷ ids) = tick_tells i (at e.tunnels i) refl (ticks_of e env ids) (ticks_tell ids)

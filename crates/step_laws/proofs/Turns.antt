@@ -1,21 +1,19 @@
 -- Each part of a turn is a move, from the end as the turn has it so far.
 use Rattle.step_laws.specs.Callers.{IsRing, WantsTunnel, LacWants, wanted_by_lac}
-use Rattle.std.proofs.Common.{◌≡◌, ◌⊎◌, inl, inr, ℕ, ◌+◌, ◌-◌, ◌%◌, ◌^◌, ◌<◌, ◌≤◌, Bool, true, false, List, [], ◌∷◌, ◌++◌, length, refl, sym, ap, ◌∙◌, subst, Option, Some, None, Result, Ok, Err, arith, rules}
-use Rattle.std.proofs.lemmas.List.{append-nil, append_assoc, length-append, length-drop}
+use Rattle.std.proofs.Common.{◌≡◌, ◌⊎◌, inl, inr, ℕ, ◌+◌, ◌-◌, ◌<◌, Bool, true, false, List, [], ◌∷◌, ◌++◌, refl, sym, ap, ◌∙◌, subst, Option, Some, None, Ok, arith}
+use Rattle.std.proofs.lemmas.List.{append-nil, append_assoc}
 use Rattle.std.specs.List.{AllByRecursion}
 use Rattle.std.specs.Prelude.{nat_lt, drop, ◌==◌}
-use Rattle.std.proofs.lemmas.Bool.{eqb-true, ltb-true, true≢false}
+use Rattle.std.proofs.lemmas.Bool.{ltb-true, true≢false}
 use Rattle.id_table.specs.Ids.{at, put, put-put, ids_of}
 use Rattle.id_table.specs.Order.{at_new, at_other, IsAbove, Ascends}
-use Rattle.id_source.specs.Spaces.{Space, takes_id, with_taken, after_id}
-use Rattle.id_source.specs.declared.IdError.{IdError}
+use Rattle.id_source.specs.Spaces.{Space, takes_id, after_id}
 use Rattle.wire_base.specs.declared.why.Why.{Why}
 use Rattle.wire_base.specs.declared.cause.Cause.{Cause as CauseOf}
 use Rattle.wire_base.specs.declared.letter.Letter.{Letter}
 use Rattle.control_message.specs.declared.message.Message.{Message}
 use Rattle.control_message.specs.declared.message.Message.TheVariants.{Sccrp, Scccn, Icrq, Icrp, Iccn, Cdn}
 use Rattle.control_message.specs.declared.message.Opening.{Opening}
-use Rattle.send_window.specs.Kept.{Window}
 use Rattle.send_window.specs.Window as sending
 use Rattle.control_channel.specs.Numbers.{count_acked}
 use Rattle.tunnel_fsm.specs.declared.table.TunnelState.TheVariants.{WaitCtlReply, WaitCtlConn, Established}
@@ -37,7 +35,7 @@ use Rattle.end_model.specs.Calls.{call_row, row_for, row_of_none, advanced, with
 use Rattle.end_model.specs.Secrets.{response_by}
 use Rattle.step_laws.proofs.Secrets.{acceptable_proven, responds_so, hides_number}
 use Rattle.end_model.specs.Messages.{is_acceptable, request_of, hidden_request, connection, told_by, flags_of}
-use Rattle.end_model.specs.Tunnels.{Tunnel, Turn}
+use Rattle.end_model.specs.Tunnels.{Tunnel, Turn, Recovering, mode_of, is_current}
 use Rattle.end_model.specs.Reasons.{Reason}
 use Rattle.end_model.specs.Moments.{is_closed}
 use Rattle.end_model.specs.Asking.{granted, session_named, replied}
@@ -60,6 +58,7 @@ use Rattle.step_laws.proofs.Lists.{all_push, branch, with_calls-more, with_looks
 use Rattle.step_laws.proofs.Tells.{Founded, Tells}
 use Rattle.step_laws.proofs.Named.{named_so}
 use Rattle.step_laws.proofs.Owing.{Fits, Holds, live_in, live_open, holds_live, has_room_for, spare_most, requested_owes, connected_owes, up_owes, replied_owes, rung_owes, fits_live, fits_given, fits_spare, fits_acked, fits_open, fits_instead, fits_up, holds_new, fits_new, fits_without}
+pub use Rattle.step_laws.proofs.HeldLetters.{Held, has_64_bits, held_given, held_read, held_learnt, last_after, small_draw, next_after}
 
 -- an output that is no datagram and hands nothing up
 abbrev pub IsWord : Out → Type 0
@@ -89,58 +88,14 @@ module _ (window : ℕ) (c : Control) where
   learnt_queued = branch (λ (d : Control). d.channel.window.queued ≡ c.channel.window.queued) (window == 0) _ _ (λ none. refl) (λ some. refl)
 
 -- what a turn of the tunnel with an id keeps, until it is removed
-abbrev pub Stays : ℕ → ℕ → Turn → Type 0
-Stays i moment t =
+abbrev pub Stays : Option Recovering → ℕ → ℕ → Turn → Type 0
+Stays recovery i moment t =
     (t.control.local ≡ i) × (state_number t.control.state ≡ 0 → ⊥) × (t.ids.sessions.last < 65536) × (0 < t.ids.tunnels.next)
-    × (t.on.moment ≡ moment) × (t.cleared ≡ false)
+    × (t.on.moment ≡ moment) × (t.cleared ≡ false) × (t.on.mode ≡ mode_of recovery)
 
--- the letters that a tunnel keeps are those that its window counts, and their numbers have 64 bits
-abbrev pub Held : Window → List Letter → Type 0
-Held w ls = (length ls ≡ w.queued) × (w.outstanding ≤ w.queued) × (w.acked < 2 ^ 64)
-
--- a number that is counted modulo 2^64
-pub has_64_bits : (n : ℕ) → n % 2 ^ 64 < 2 ^ 64
-has_64_bits n = omega arith
-
--- one more letter
-pub held_given : (w : Window) (ls : List Letter) (l : Letter) → Held w ls → Held (sending.one_more w) (ls ++ l ∷ [])
-held_given w ls l h =
-    let more = length-append ls (l ∷ []) in
-    let count = h.0 in
-    let few = h.1 in
-    (omega (arith, more, count), omega (arith, few), h.2)
-
-pub held_read : (w : Window) (ls : List Letter) (nr moment : ℕ) → Held w ls → Held (sending.acked_at w nr moment) (drop (sending.count_acked w nr) ls)
-held_read w ls nr moment h =
-    let count = sending.count_acked w nr in
-    branch (λ (x : Window). Held x (drop count ls)) (count == 0) _ _
-    (λ zero. rw (eqb-true count 0 zero) h)
-    (λ some. (
-      length-drop count ls ∙ ap (λ n. n - count) h.0,
-      (let few = h.1 in omega (arith, few)),
-      has_64_bits (w.acked + count),
-    ))
-
-pub held_learnt : (peer_window : ℕ) (c : Control) (ls : List Letter) → Held c.channel.window ls → Held (learns_window peer_window c).channel.window ls
-held_learnt peer_window c ls h = branch (λ (d : Control). Held d.channel.window ls) (peer_window == 0) _ _ (λ none. h) (λ some. h)
-
-pub last_after : (s : Space) → (after_id s).last ≡ s.last
-last_after s = by (takes_id s)
-  where
-    by : (r : Result ℕ IdError) → (with_taken r s).last ≡ s.last
-    by (Ok n) = refl
-    by (Err x) = refl
-
-pub small_draw : (s : Space) (n : ℕ) → takes_id s ≡ Ok n → s.last < 65536 → n < 65536
-unfolding takes_id
-small_draw s n is small = grind (arith, rules)
-
-pub next_after : (s : Space) → 0 < s.next → 0 < (after_id s).next
-next_after s some = by (takes_id s)
-  where
-    by : (r : Result ℕ IdError) → 0 < (with_taken r s).next
-    by (Ok n) = omega arith
-    by (Err x) = some
+-- its channel carries messages
+abbrev pub IsCurrent : Option Recovering → Type 0
+IsCurrent recovery = is_current (mode_of recovery) ≡ true
 
 -- what comes next is taken plainly: by its tables the end does nothing on it in the tunnel
 pub record ComesPlain (ev : Event) (x : End) (u : Tunnel) : Type 0 where
@@ -155,28 +110,30 @@ pub record IsGranted (r : Role) (cs : List (ℕ × Call)) (sessions : Space) (s 
   pub few : are_too_many cs ≡ false
   pub drawn : takes_id sessions ≡ Ok s
 
-module _ (e : End) (moment : ℕ) (ev : Event) (letters : List Letter) (calls : List (ℕ × Call)) (i : ℕ) where
+module _ (e : End) (moment : ℕ) (ev : Event) (letters : List Letter) (calls : List (ℕ × Call)) (recovery : Option Recovering) (i : ℕ) where
   -- the end as the turn has it
   abbrev pub at_turn : Turn → End
   at_turn t = record e {
     tunnel_ids = t.ids.tunnels;
     session_ids = t.ids.sessions;
-    tunnels = put e.tunnels t.control.local (tunnel_after t letters calls);
+    recovery_ids = t.ids.recoveries;
+    tunnels = put e.tunnels t.control.local (tunnel_after t letters calls recovery);
     calls = with_looks t.changes (placed t.control.local t.added e.calls);
   }
 
-  -- a turn that sent nothing yet
+  -- a turn that sent nothing yet, of a tunnel whose channel carries messages
   pub record TurnOk (t : Turn) : Type 0 where
     pub chain : Chain moment ev e t.moves (at_turn t)
     pub words : AllByRecursion IsWord t.outputs
     pub tells : AllByRecursion (Tells e moment ev) t.outputs
     pub frames : AllByRecursion NoFrame t.moves
-    pub stays : Stays i moment t
+    pub stays : Stays recovery i moment t
+    pub current : IsCurrent recovery
     pub held : Held t.control.channel.window (letters_after t letters)
     pub fits : Fits t.control (with_calls t.changed calls)
 
-  pub there : (t : Turn) → at (at_turn t).tunnels t.control.local ≡ Some (tunnel_after t letters calls)
-  there t = at_new e.tunnels t.control.local (tunnel_after t letters calls)
+  pub there : (t : Turn) → at (at_turn t).tunnels t.control.local ≡ Some (tunnel_after t letters calls recovery)
+  there t = at_new e.tunnels t.control.local (tunnel_after t letters calls recovery)
 
   -- what is given stands behind the other letters
   pub one_given : (t : Turn) (l : Letter) → drop t.acked letters ++ (t.given ++ l ∷ []) ≡ letters_after t letters ++ l ∷ []
@@ -199,23 +156,24 @@ module _ (e : End) (moment : ℕ) (ev : Event) (letters : List Letter) (calls : 
 
   pub drops_ok : (w : Why) → Founded e moment ev w → (t : Turn) → TurnOk t → TurnOk (drops w t)
   unfolding drops with_output
-  drops_ok w so t h = record { chain = h.chain; words = all_push IsWord t.outputs (Drop w) h.words tt; tells = all_push _ t.outputs (Drop w) h.tells so; frames = h.frames; stays = h.stays; held = h.held; fits = h.fits }
+  drops_ok w so t h = record { chain = h.chain; words = all_push IsWord t.outputs (Drop w) h.words tt; tells = all_push _ t.outputs (Drop w) h.tells so; frames = h.frames; stays = h.stays; current = h.current; held = h.held; fits = h.fits }
 
   pub caused_ok : (c : CauseOf) → Stands e moment ev c → (t : Turn) → TurnOk t → TurnOk (with_output (Cause c) t)
   unfolding with_output
-  caused_ok c so t h = record { chain = h.chain; words = all_push IsWord t.outputs (Cause c) h.words tt; tells = all_push _ t.outputs (Cause c) h.tells so; frames = h.frames; stays = h.stays; held = h.held; fits = h.fits }
+  caused_ok c so t h = record { chain = h.chain; words = all_push IsWord t.outputs (Cause c) h.words tt; tells = all_push _ t.outputs (Cause c) h.tells so; frames = h.frames; stays = h.stays; current = h.current; held = h.held; fits = h.fits }
 
   -- ---- calls that are asked for
 
   requested_chain : (s : ℕ) (c : Call) (t : Turn) → state_number t.control.state ≡ 3 → at (with_calls t.changed calls) s ≡ Some c → s < 65536
       → is_request (row_for e.role c call_event.TunnelOpen).1 ≡ true → has_room t.control ≡ true → t.on.moment ≡ moment
-      → Chain moment ev e t.moves (at_turn t) → Chain moment ev e (requested e.role e.config s c t).moves (at_turn (requested e.role e.config s c t))
+      → IsCurrent recovery → Chain moment ev e t.moves (at_turn t) → Chain moment ev e (requested e.role e.config s c t).moves (at_turn (requested e.role e.config s c t))
   unfolding requested gives_as with_change with_move with_call
-  requested_chain s c t is_open found small row room now_is h =
+  requested_chain s c t is_open found small row room now_is current h =
       let m = move.Requested (record { tunnel = t.control.local; session = s; subscriber = c.subscriber; hidden = hidden_request e.config t.on.block s c.subscriber; given = next_place t.control }) in
       chain_more moment ev e (at_turn t) _ t.moves m h (record {
-        tunnel = tunnel_after t letters calls;
+        tunnel = tunnel_after t letters calls recovery;
         there = there t;
+        current = current;
         open_is = is_open;
         call = c;
         waits = found;
@@ -228,7 +186,7 @@ module _ (e : End) (moment : ℕ) (ev : Event) (letters : List Letter) (calls : 
         after =
             let changed = with_calls-more t.changed s (Some (advanced e.role call_event.TunnelOpen t.on.moment c)) calls in
             let looked = with_looks-more t.changes (cell.Bind s t.control.local t.control.peer) (placed t.control.local t.added e.calls) in
-            rw (changed, looked, one_given t (letter_as 0 (request_of s c.subscriber) (hidden_request e.config t.on.block s c.subscriber)), put-put e.tunnels t.control.local (tunnel_after t letters calls) _, now_is) refl;
+            rw (changed, looked, one_given t (letter_as 0 (request_of s c.subscriber) (hidden_request e.config t.on.block s c.subscriber)), put-put e.tunnels t.control.local (tunnel_after t letters calls recovery) _, now_is) refl;
       })
 
   -- it gives one of the letters that it owes
@@ -246,11 +204,12 @@ module _ (e : End) (moment : ℕ) (ev : Event) (letters : List Letter) (calls : 
       → is_request (row_for e.role c call_event.TunnelOpen).1 ≡ true → has_room t.control ≡ true → TurnOk t → TurnOk (requested e.role e.config s c t)
   unfolding requested gives_as with_change with_move with_call
   requested_ok s c t is_open found small row room h = record {
-    chain = requested_chain s c t is_open found small row room h.stays.4 h.chain;
+    chain = requested_chain s c t is_open found small row room h.stays.4 h.current h.chain;
     words = h.words;
     tells = h.tells;
     frames = all_push NoFrame t.moves _ h.frames tt;
     stays = h.stays;
+    current = h.current;
     held = given_held t (letter_as 0 (request_of s c.subscriber) (hidden_request e.config t.on.block s c.subscriber)) h.held;
     fits =
         let live = live_open t.control is_open in
@@ -337,14 +296,15 @@ module _ (e : End) (moment : ℕ) (ev : Event) (letters : List Letter) (calls : 
 
   adds_chain : (who : List ℕ) (s : ℕ) (t : Turn) → t.changes ≡ [] → (state_number t.control.state ≡ 3) ⊎ (state_number t.control.state ≡ 1)
       → are_too_many (with_calls t.changed calls) ≡ false → may_take t.control (with_calls t.changed calls) ≡ true → IsRing ev who → WantsTunnel e ev t.control.peer
-      → takes_id t.ids.sessions ≡ Ok s → t.on.moment ≡ moment → Chain moment ev e t.moves (at_turn t)
+      → takes_id t.ids.sessions ≡ Ok s → t.on.moment ≡ moment → IsCurrent recovery → Chain moment ev e t.moves (at_turn t)
       → Chain moment ev e (adds e.role who s t).moves (at_turn (adds e.role who s t))
   unfolding adds with_move with_new with_looks
-  adds_chain who s t none goes few spare rings wants drawn now_is h =
+  adds_chain who s t none goes few spare rings wants drawn now_is current h =
       let m = move.Added (record { tunnel = t.control.local; session = s; subscriber = who }) in
       chain_more moment ev e (at_turn t) _ t.moves m h (record {
-        tunnel = tunnel_after t letters calls;
+        tunnel = tunnel_after t letters calls recovery;
         there = there t;
+        current = current;
         goes = goes;
         few = few;
         spare = spare;
@@ -354,7 +314,7 @@ module _ (e : End) (moment : ℕ) (ev : Event) (letters : List Letter) (calls : 
         after =
             let changed = with_calls-more t.changed s (Some (rung e.role who t.on.moment)) calls in
             let added = placed-more t.control.local t.added s e.calls in
-            rw (none, changed, added, put-put e.tunnels t.control.local (tunnel_after t letters calls) _, now_is) refl;
+            rw (none, changed, added, put-put e.tunnels t.control.local (tunnel_after t letters calls recovery) _, now_is) refl;
       })
 
   adds_fit : (who : List ℕ) (s : ℕ) (t : Turn) → are_too_many (with_calls t.changed calls) ≡ false → may_take t.control (with_calls t.changed calls) ≡ true
@@ -376,11 +336,12 @@ module _ (e : End) (moment : ℕ) (ev : Event) (letters : List Letter) (calls : 
   adds_ok who s t none waits few spare rings wants drawn h =
       let fit = adds_fit who s t few spare (wanted_by_lac e ev t.control.peer wants) h in
       record {
-        chain = adds_chain who s t none (inr waits) few spare rings wants drawn h.stays.4 h.chain;
+        chain = adds_chain who s t none (inr waits) few spare rings wants drawn h.stays.4 h.current h.chain;
         words = h.words;
         tells = h.tells;
         frames = all_push NoFrame t.moves _ h.frames tt;
-        stays = (h.stays.0, h.stays.1, small_last t h.stays.2, h.stays.3, h.stays.4, h.stays.5);
+        stays = (h.stays.0, h.stays.1, small_last t h.stays.2, h.stays.3, h.stays.4, h.stays.5, h.stays.6);
+        current = h.current;
         held = h.held;
         fits = fits_live (adds e.role who s t).control (with_calls (adds e.role who s t).changed calls)
             (live_in t.control 1 (λ f. omega (arith, f)) waits) fit (λ o. absurd (omega (arith, waits, o)));
@@ -402,11 +363,12 @@ module _ (e : End) (moment : ℕ) (ev : Event) (letters : List Letter) (calls : 
       let c = rung e.role who t.on.moment in
       let found = adds_found who s t in
       record {
-        chain = requested_chain s c u is_open found small row room h.stays.4 (adds_chain who s t none (inl is_open) few spare rings wants drawn h.stays.4 h.chain);
+        chain = requested_chain s c u is_open found small row room h.stays.4 h.current (adds_chain who s t none (inl is_open) few spare rings wants drawn h.stays.4 h.current h.chain);
         words = h.words;
         tells = h.tells;
         frames = all_push NoFrame _ _ (all_push NoFrame t.moves _ h.frames tt) tt;
-        stays = (h.stays.0, h.stays.1, small_last t h.stays.2, h.stays.3, h.stays.4, h.stays.5);
+        stays = (h.stays.0, h.stays.1, small_last t h.stays.2, h.stays.3, h.stays.4, h.stays.5, h.stays.6);
+        current = h.current;
         held = given_held t (letter_as 0 (request_of s c.subscriber) (hidden_request e.config t.on.block s c.subscriber)) h.held;
         fits = requested_fits s c u (live_open t.control is_open) found row (adds_fit who s t few spare (wanted_by_lac e ev t.control.peer wants) h);
       }
@@ -424,7 +386,7 @@ module _ (e : End) (moment : ℕ) (ev : Event) (letters : List Letter) (calls : 
       (λ no. absurd (true≢false (sym (rung_asks e.role who t.on.moment (wanted_by_lac e ev t.control.peer wants)) ∙ no)))
 
   pub replied_ok : (remote s session serial : ℕ) (calling : Option (List ℕ)) (t : Turn) → t.changes ≡ [] → state_number t.control.state ≡ 3
-      → HearsNext ev (tunnel_after t letters calls) session (Icrq remote serial calling) → at (with_calls t.changed calls) session ≡ None
+      → HearsNext ev (tunnel_after t letters calls recovery) session (Icrq remote serial calling) → at (with_calls t.changed calls) session ≡ None
       → granted e.role (with_calls t.changed calls) remote t.ids.sessions ≡ Ok s → IsGranted e.role (with_calls t.changed calls) t.ids.sessions s
       → may_take t.control (with_calls t.changed calls) ≡ true → has_room t.control ≡ true → TurnOk t → TurnOk (replied e.role remote s t)
   unfolding replied gives with_output with_move with_new takes_one with_looks
@@ -439,8 +401,9 @@ module _ (e : End) (moment : ℕ) (ev : Event) (letters : List Letter) (calls : 
       }) in
       record {
         chain = chain_more moment ev e (at_turn t) _ t.moves m h.chain (record {
-          tunnel = tunnel_after t letters calls;
+          tunnel = tunnel_after t letters calls recovery;
           there = there t;
+          current = h.current;
           open_is = is_open;
           peer = refl;
           serial = serial;
@@ -449,7 +412,7 @@ module _ (e : End) (moment : ℕ) (ev : Event) (letters : List Letter) (calls : 
           takes = record { next = hears.next; taken_is = refl; spare = spare };
           said = hears.says.said;
           none = ap (at (with_calls t.changed calls)) hears.says.session_is ∙ unnamed;
-          granted = grants_is (at_turn t) (tunnel_after t letters calls) remote s is;
+          granted = grants_is (at_turn t) (tunnel_after t letters calls recovery) remote s is;
           row = so.row;
           few = so.few;
           drawn = so.drawn;
@@ -458,12 +421,13 @@ module _ (e : End) (moment : ℕ) (ev : Event) (letters : List Letter) (calls : 
           after =
               let changed = with_calls-more t.changed s (Some (asked_for e.role remote t.on.moment)) calls in
               let added = placed-more t.control.local t.added s e.calls in
-              rw (none, changed, added, one_given t (letter_of remote (Icrp s)), put-put e.tunnels t.control.local (tunnel_after t letters calls) _, h.stays.4) refl;
+              rw (none, changed, added, one_given t (letter_of remote (Icrp s)), put-put e.tunnels t.control.local (tunnel_after t letters calls recovery) _, h.stays.4) refl;
         });
         words = h.words;
         tells = h.tells;
         frames = all_push NoFrame t.moves m h.frames tt;
-        stays = (h.stays.0, h.stays.1, small_last t h.stays.2, h.stays.3, h.stays.4, h.stays.5);
+        stays = (h.stays.0, h.stays.1, small_last t h.stays.2, h.stays.3, h.stays.4, h.stays.5, h.stays.6);
+        current = h.current;
         held = given_held t (letter_of remote (Icrp s)) h.held;
         fits =
             let d = asked_for e.role remote t.on.moment in
@@ -473,7 +437,7 @@ module _ (e : End) (moment : ℕ) (ev : Event) (letters : List Letter) (calls : 
       }
 
   pub first_up_ok : (s remote : ℕ) (c : Call) (t : Turn) → state_number t.control.state ≡ 3 → at (with_calls t.changed calls) s ≡ Some c
-      → HearsNext ev (tunnel_after t letters calls) s (Icrp remote) → is_connection (row_for e.role c call_event.IcrpAcc).1 ≡ true
+      → HearsNext ev (tunnel_after t letters calls recovery) s (Icrp remote) → is_connection (row_for e.role c call_event.IcrpAcc).1 ≡ true
       → may_take t.control (with_calls t.changed calls) ≡ true → has_room t.control ≡ true → TurnOk t
       → TurnOk (first_up e.role s remote c t)
   unfolding first_up gives with_output with_change with_move with_call takes_one advanced
@@ -488,8 +452,9 @@ module _ (e : End) (moment : ℕ) (ev : Event) (letters : List Letter) (calls : 
       }) in
       record {
         chain = chain_more moment ev e (at_turn t) _ t.moves m h.chain (record {
-          tunnel = tunnel_after t letters calls;
+          tunnel = tunnel_after t letters calls recovery;
           there = there t;
+          current = h.current;
           open_is = is_open;
           call = c;
           asked = found;
@@ -503,12 +468,13 @@ module _ (e : End) (moment : ℕ) (ev : Event) (letters : List Letter) (calls : 
           after =
               let changed = with_calls-more t.changed s (Some (advanced e.role call_event.IcrpAcc t.on.moment (record c { remote = remote }))) calls in
               let looked = with_looks-more t.changes (cell.Establish s) (placed t.control.local t.added e.calls) in
-              rw (changed, looked, one_given t (letter_of remote connection), put-put e.tunnels t.control.local (tunnel_after t letters calls) _, h.stays.4) refl;
+              rw (changed, looked, one_given t (letter_of remote connection), put-put e.tunnels t.control.local (tunnel_after t letters calls recovery) _, h.stays.4) refl;
         });
         words = h.words;
         tells = h.tells;
         frames = all_push NoFrame t.moves m h.frames tt;
         stays = h.stays;
+        current = h.current;
         held = given_held t (letter_of remote connection) h.held;
         fits =
             let less = connected_owes e.role c.state row in
@@ -524,7 +490,7 @@ module _ (e : End) (moment : ℕ) (ev : Event) (letters : List Letter) (calls : 
   connected_call sequenced block c t = with_link (new_link (record { moment = t.on.moment; block = block })) (with_numbers sequenced (advanced e.role call_event.IccnAcc t.on.moment c))
 
   pub second_up_ok : (s speed framing : ℕ) (block : List ℕ) (sequenced : Bool) (c : Call) (t : Turn) → state_number t.control.state ≡ 3
-      → at (with_calls t.changed calls) s ≡ Some c → HearsNext ev (tunnel_after t letters calls) s (Iccn speed framing sequenced)
+      → at (with_calls t.changed calls) s ≡ Some c → HearsNext ev (tunnel_after t letters calls recovery) s (Iccn speed framing sequenced)
       → is_up (row_for e.role c call_event.IccnAcc).0 ≡ true → may_take t.control (with_calls t.changed calls) ≡ true → TurnOk t
       → TurnOk (second_up sequenced s (connected_call sequenced block c t) t)
   unfolding second_up with_change with_move with_call takes_one advanced
@@ -534,8 +500,9 @@ module _ (e : End) (moment : ℕ) (ev : Event) (letters : List Letter) (calls : 
       let places = placed t.control.local t.added e.calls in
       record {
         chain = chain_more moment ev e (at_turn t) _ t.moves m h.chain (record {
-          tunnel = tunnel_after t letters calls;
+          tunnel = tunnel_after t letters calls recovery;
           there = there t;
+          current = h.current;
           open_is = is_open;
           call = c;
           made = found;
@@ -550,12 +517,13 @@ module _ (e : End) (moment : ℕ) (ev : Event) (letters : List Letter) (calls : 
           after =
               let changed = with_calls-more t.changed s (Some (connected_call sequenced block c t)) calls in
               let bound = with_looks-more t.changes bind places in
-              rw (changed, bound, put-put e.tunnels t.control.local (tunnel_after t letters calls) _, h.stays.4) refl;
+              rw (changed, bound, put-put e.tunnels t.control.local (tunnel_after t letters calls recovery) _, h.stays.4) refl;
         });
         words = h.words;
         tells = h.tells;
         frames = all_push NoFrame t.moves m h.frames tt;
         stays = h.stays;
+        current = h.current;
         held = h.held;
         fits =
             let d = connected_call sequenced block c t in
@@ -563,7 +531,7 @@ module _ (e : End) (moment : ℕ) (ev : Event) (letters : List Letter) (calls : 
       }
 
   pub end_heard_ok : (s session remote code : ℕ) (error : Option ℕ) (c : Call) (t : Turn) → state_number t.control.state ≡ 3
-      → at (with_calls t.changed calls) s ≡ Some c → HearsNext ev (tunnel_after t letters calls) session (Cdn remote code error)
+      → at (with_calls t.changed calls) s ≡ Some c → HearsNext ev (tunnel_after t letters calls recovery) session (Cdn remote code error)
       → s ≡ session_named (with_calls t.changed calls) session remote → is_clean_up (row_for e.role c call_event.CdnCame).1 ≡ true
       → may_take t.control (with_calls t.changed calls) ≡ true → TurnOk t → TurnOk (end_heard s (is_up c.state) t)
   unfolding end_heard ends_call with_output with_change with_move takes_one
@@ -573,8 +541,9 @@ module _ (e : End) (moment : ℕ) (ev : Event) (letters : List Letter) (calls : 
       named ∙ ap (λ q. session_named (with_calls t.changed calls) q remote) (sym hears.says.session_is) in
       record {
         chain = chain_more moment ev e (at_turn t) _ t.moves m h.chain (record {
-          tunnel = tunnel_after t letters calls;
+          tunnel = tunnel_after t letters calls recovery;
           there = there t;
+          current = h.current;
           open_is = is_open;
           call = c;
           live = found;
@@ -591,19 +560,20 @@ module _ (e : End) (moment : ℕ) (ev : Event) (letters : List Letter) (calls : 
           after =
               let changed = with_calls-more t.changed s None calls in
               let looked = with_looks-more t.changes (cell.Kill s) (placed t.control.local t.added e.calls) in
-              rw (changed, looked, put-put e.tunnels t.control.local (tunnel_after t letters calls) _) refl;
+              rw (changed, looked, put-put e.tunnels t.control.local (tunnel_after t letters calls recovery) _) refl;
         });
         words = all_push IsWord t.outputs (Gone s) h.words tt;
         tells = all_push _ t.outputs (Gone s) h.tells tt;
         frames = all_push NoFrame t.moves m h.frames tt;
         stays = h.stays;
+        current = h.current;
         held = h.held;
         fits = fits_changed t.control t s None (fits_without t.control (with_calls t.changed calls) s h.fits);
       }
 
   -- ---- moves of the tunnel
 
-  pub connected_ok : (session : ℕ) (o : Opening) (t : Turn) → t.control.state ≡ WaitCtlReply → HearsNext ev (tunnel_after t letters calls) session (Sccrp o)
+  pub connected_ok : (session : ℕ) (o : Opening) (t : Turn) → t.control.state ≡ WaitCtlReply → HearsNext ev (tunnel_after t letters calls recovery) session (Sccrp o)
       → is_acceptable e.config.secret t.control.challenge o ≡ true
       → may_take t.control (with_calls t.changed calls) ≡ true → has_room t.control ≡ true → TurnOk t
       → TurnOk (connected e.config (told_by o) Established t)
@@ -626,8 +596,9 @@ module _ (e : End) (moment : ℕ) (ev : Event) (letters : List Letter) (calls : 
       let c : Control = record t.control { remote = o.tunnel; flags = flags_of o.failover; state = Established } in
       record {
         chain = chain_more moment ev e (at_turn t) _ t.moves m h.chain (record {
-          tunnel = tunnel_after t letters calls;
+          tunnel = tunnel_after t letters calls recovery;
           there = there t;
+          current = h.current;
           state = state;
           opening = o;
           letter = hears.letter;
@@ -642,12 +613,13 @@ module _ (e : End) (moment : ℕ) (ev : Event) (letters : List Letter) (calls : 
           responds = responds_so 3 e.config.secret o.challenge;
           room = room;
           given = refl;
-          after = rw (learnt_local window c, one_given t l, put-put e.tunnels t.control.local (tunnel_after t letters calls) _) refl;
+          after = rw (learnt_local window c, one_given t l, put-put e.tunnels t.control.local (tunnel_after t letters calls recovery) _) refl;
         });
         words = h.words;
         tells = h.tells;
         frames = all_push NoFrame t.moves m h.frames tt;
-        stays = (learnt_local window c ∙ h.stays.0, rw (learnt_state window c) (λ z. absurd (omega (arith, z))), h.stays.2, h.stays.3, h.stays.4, h.stays.5);
+        stays = (learnt_local window c ∙ h.stays.0, rw (learnt_state window c) (λ z. absurd (omega (arith, z))), h.stays.2, h.stays.3, h.stays.4, h.stays.5, h.stays.6);
+        current = h.current;
         held = subst (Held (sending.one_more (learns_window window c).channel.window)) (sym (one_given t l))
             (held_given (learns_window window c).channel.window (letters_after t letters) l
             (held_learnt window c (letters_after t letters) h.held));
@@ -659,7 +631,7 @@ module _ (e : End) (moment : ℕ) (ev : Event) (letters : List Letter) (calls : 
       }
 
   pub confirms_ok : (session : ℕ) (response : Option (List ℕ)) (t : Turn) → t.control.state ≡ WaitCtlConn
-      → HearsNext ev (tunnel_after t letters calls) session (Scccn response) → IsRight 3 e.config.secret t.control.challenge response
+      → HearsNext ev (tunnel_after t letters calls recovery) session (Scccn response) → IsRight 3 e.config.secret t.control.challenge response
       → may_take t.control (with_calls t.changed calls) ≡ true → TurnOk t → TurnOk (confirms Established t)
   unfolding confirms with_move takes_one
   confirms_ok session response t state hears right spare h =
@@ -673,8 +645,9 @@ module _ (e : End) (moment : ℕ) (ev : Event) (letters : List Letter) (calls : 
       }) in
       record {
         chain = chain_more moment ev e (at_turn t) _ t.moves m h.chain (record {
-          tunnel = tunnel_after t letters calls;
+          tunnel = tunnel_after t letters calls recovery;
           there = there t;
+          current = h.current;
           state = state;
           response = response;
           letter = hears.letter;
@@ -685,19 +658,20 @@ module _ (e : End) (moment : ℕ) (ev : Event) (letters : List Letter) (calls : 
           remote = refl;
           window = refl;
           flags = refl;
-          after = rw (put-put e.tunnels t.control.local (tunnel_after t letters calls) _) refl;
+          after = rw (put-put e.tunnels t.control.local (tunnel_after t letters calls recovery) _) refl;
         });
         words = h.words;
         tells = h.tells;
         frames = all_push NoFrame t.moves m h.frames tt;
-        stays = (h.stays.0, (λ z. absurd (omega (arith, z))), h.stays.2, h.stays.3, h.stays.4, h.stays.5);
+        stays = (h.stays.0, (λ z. absurd (omega (arith, z))), h.stays.2, h.stays.3, h.stays.4, h.stays.5, h.stays.6);
+        current = h.current;
         held = h.held;
         fits = fits_open t.control (in_state Established t.control) (with_calls t.changed calls) refl refl spare h.fits;
       }
 
   -- a letter on which nothing is done in a turn
   abbrev pub PlainAt : Turn → Type 0
-  PlainAt t = ComesPlain ev (at_turn t) (tunnel_after t letters calls)
+  PlainAt t = ComesPlain ev (at_turn t) (tunnel_after t letters calls recovery)
 
   pub plain_ok : (t : Turn) → PlainAt t → TurnOk t → TurnOk (takes_plain t)
   unfolding takes_plain with_move takes_one
@@ -705,19 +679,21 @@ module _ (e : End) (moment : ℕ) (ev : Event) (letters : List Letter) (calls : 
       let m = move.TookPlain (record { tunnel = t.control.local; taken = taken_place t.control }) in
       record {
         chain = chain_more moment ev e (at_turn t) _ t.moves m h.chain (record {
-          tunnel = tunnel_after t letters calls;
+          tunnel = tunnel_after t letters calls recovery;
           there = there t;
+          current = h.current;
           letter = comes.letter;
           next = comes.next;
           why = comes.why;
           taken = refl;
           spare = comes.spare;
-          after = rw (put-put e.tunnels t.control.local (tunnel_after t letters calls) _) refl;
+          after = rw (put-put e.tunnels t.control.local (tunnel_after t letters calls recovery) _) refl;
         });
         words = h.words;
         tells = h.tells;
         frames = all_push NoFrame t.moves m h.frames tt;
         stays = h.stays;
+        current = h.current;
         held = h.held;
         fits = h.fits;
       }
@@ -728,9 +704,9 @@ module _ (e : End) (moment : ℕ) (ev : Event) (letters : List Letter) (calls : 
 
   -- a letter about a call that there isn't
   pub refused_ok : (r : Reason) → Stands e moment ev r.cause → (remote : ℕ) (t : Turn) → state_number t.control.state ≡ 3 → (k : Came)
-      → IsNext ev (tunnel_after t letters calls) k
+      → IsNext ev (tunnel_after t letters calls recovery) k
       → ((m : Refused) → m.remote ≡ remote → m.result ≡ r.result → m.error ≡ r.error
-      → WhyRefused (at_turn t) (tunnel_after t letters calls) k.header.session (message_in k.body)
+      → WhyRefused (at_turn t) (tunnel_after t letters calls recovery) k.header.session (message_in k.body)
       (call_fault_in k.body) m)
       → may_take t.control (with_calls t.changed calls) ≡ true → has_room t.control ≡ true → TurnOk t → TurnOk (refused r remote t)
   unfolding refused gives with_output with_move takes_one
@@ -746,20 +722,22 @@ module _ (e : End) (moment : ℕ) (ev : Event) (letters : List Letter) (calls : 
       let l = letter_of remote (Cdn 0 r.result r.error) in
       record {
         chain = chain_more moment ev e (at_turn t) _ t.moves m h.chain (record {
-          tunnel = tunnel_after t letters calls;
+          tunnel = tunnel_after t letters calls recovery;
           there = there t;
+          current = h.current;
           open_is = is_open;
           letter = k;
           takes = record { next = next; taken_is = refl; spare = spare };
           why = why _ refl refl refl;
           room = room;
           given = refl;
-          after = rw (one_given t l, put-put e.tunnels t.control.local (tunnel_after t letters calls) _) refl;
+          after = rw (one_given t l, put-put e.tunnels t.control.local (tunnel_after t letters calls recovery) _) refl;
         });
         words = all_push IsWord t.outputs (Cause r.cause) h.words tt;
         tells = all_push _ t.outputs (Cause r.cause) h.tells so;
         frames = all_push NoFrame t.moves m h.frames tt;
         stays = h.stays;
+        current = h.current;
         held = given_held t l h.held;
         fits = fits_spare t.control (with_calls t.changed calls) (live_open t.control is_open) h.fits spare;
       }
@@ -774,15 +752,17 @@ module _ (e : End) (moment : ℕ) (ev : Event) (letters : List Letter) (calls : 
       let left : drop count letters ++ t.given ≡ drop count letters = rw none (append-nil (drop count letters)) in
       record {
         chain = chain_more moment ev e (at_turn t) _ t.moves m h.chain (record {
-          tunnel = tunnel_after t letters calls;
+          tunnel = tunnel_after t letters calls recovery;
           there = there t;
+          current = h.current;
           tells = tells;
-          after = rw (put-put e.tunnels t.control.local (tunnel_after t letters calls) _, all, left, h.stays.4) refl;
+          after = rw (put-put e.tunnels t.control.local (tunnel_after t letters calls recovery) _, all, left, h.stays.4) refl;
         });
         words = h.words;
         tells = h.tells;
         frames = all_push NoFrame t.moves m h.frames tt;
         stays = h.stays;
+        current = h.current;
         held = subst (Held (sending.acked_at t.control.channel.window nr t.on.moment)) (sym left)
             (held_read t.control.channel.window letters nr t.on.moment (subst (Held t.control.channel.window) all h.held));
         fits = fits_acked t.control nr t.on.moment (with_calls t.changed calls) h.fits;

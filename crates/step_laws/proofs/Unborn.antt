@@ -1,6 +1,6 @@
 -- A tick makes no call.
 use Rattle.std.proofs.Common.{◌≡◌, ℕ, Bool, ◌==◌, ◌&&◌, false, List, [], ◌∷◌, ap, ◌∙◌, Option, Some, None}
-use Rattle.std.specs.Prelude.{nat_lt}
+use Rattle.std.specs.Prelude.{nat_lt, not, nat_le, length}
 use Rattle.id_table.specs.Ids.{at, ids_of}
 use Rattle.wire_base.specs.declared.cause.Cause.{Cause}
 use Rattle.wire_base.specs.declared.cause.Cause.TheVariants as cause
@@ -8,6 +8,9 @@ use Rattle.wire_base.specs.declared.letter.Letter.{Letter}
 use Rattle.send_window.specs.declared.window.Tick.{Tick as Due}
 use Rattle.send_window.specs.declared.window.Tick.TheVariants as tick
 use Rattle.control_channel.specs.Numbers.{answer_to_tick}
+use Rattle.control_channel.specs.Channel.{answer_to_tick as channel_tick}
+use Rattle.send_window.specs.Outbox.{letter_at}
+use Rattle.recovery_tunnel.specs.Connections.{ControlConnection, is_lost}
 use Rattle.tunnel_fsm.specs.Rows.{state_number}
 use Rattle.call_fsm.specs.declared.table.CallEvent.TheVariants as call_event
 use Rattle.call_fsm.specs.declared.table.CallAction.{CallAction}
@@ -20,18 +23,20 @@ use Rattle.call_link.specs.Link.{Link, is_due}
 use Rattle.end_model.specs.declared.event.Event.TheVariants.{Tick}
 use Rattle.end_model.specs.declared.moves.Move.TheVariants as move
 use Rattle.end_model.specs.Calls.{counted_all, row_for, is_set_up, is_up}
-use Rattle.end_model.specs.Tunnels.{Turn}
+use Rattle.end_model.specs.Tunnels.{Turn, is_current, Recovering, connection_of}
 use Rattle.end_model.specs.Turn.{with_output, with_move, with_change, with_call, with_looks_of, drops, ends_call, ends_all}
 use Rattle.end_model.specs.Sending.{gives, letter_in, settles, sends_now, repeats}
 use Rattle.end_model.specs.Channels.{has_room, place, counts_repeated}
 use Rattle.end_model.specs.Moments.{is_over, patience, is_at_its_end, is_open}
 use Rattle.end_model.specs.Closing.{ends_by, end_silent, end_told}
-use Rattle.end_model.specs.Ticking.{greeted, greets, limits_at, limits_all, goes_quietly, clears, ticks_by, ticks}
+use Rattle.end_model.specs.Ticking.{greeted, greets, limits_at, limits_all, goes_quietly, ticks_by, ticks}
+use Rattle.end_model.specs.Stopping.{clears}
 use Rattle.end_model.specs.Linking.{sends_frames, negotiated, ends_linked, links_by, ticks_link}
-use Rattle.end_model.specs.Events.{turns}
+use Rattle.end_model.specs.Events.{turns, with_calls}
 use Rattle.step_laws.proofs.Lists.{branch}
 use Rattle.step_laws.proofs.Keeping.{sent_keeps, settled_keeps}
 use Rattle.step_laws.proofs.Linking.{frames_same}
+use Rattle.end_model.specs.Recovering.{RecoveryTurn, recovery_letter, repeats_on, is_kept_long, ticks_on, without_recovery, recovery_ticks}
 
 module _ (ss : List ℕ) where
   -- these are the calls that a turn made
@@ -46,7 +51,8 @@ module _ (ss : List ℕ) where
   by_made : (for : Cause) (result : ℕ) (error : Option ℕ) (s : ℕ) (c : Call) (a : CallAction) (t : Turn) → Made t → Made (ends_by for result error s c a t)
   unfolding ends_by end_silent end_told ends_call gives drops with_output with_change with_move
   by_made for result error s c call_action.CleanUp t h = h
-  by_made for result error s c call_action.SendCdn t h = branch Made (has_room t.control) _ _ (λ may. h) (λ full. h)
+  by_made for result error s c call_action.SendCdn t h =
+      branch Made (not (is_current t.on.mode)) _ _ (λ inactive. h) (λ active. branch Made (has_room t.control) _ _ (λ may. h) (λ full. h))
   by_made for result error s c call_action.Nothing t h = h
   by_made for result error s c call_action.SendIcrq t h = h
   by_made for result error s c call_action.SendIcrp t h = h
@@ -98,7 +104,7 @@ module _ (ss : List ℕ) where
   greets_made : (letters : List Letter) (t : Turn) → Made t → Made (greets letters t)
   unfolding greets greeted gives with_move
   greets_made letters t h =
-      branch Made (state_number t.control.state == 3 && t.control.channel.window.queued == 0 && is_over patience t.on.moment t.control.heard) _ _
+      branch Made (state_number t.control.state == 3 && is_current t.on.mode && t.control.channel.window.queued == 0 && is_over patience t.on.moment t.control.heard) _ _
       (λ due. settled_made false letters _ h)
       (λ no. h)
 
@@ -134,3 +140,31 @@ module _ (ss : List ℕ) where
       branch Made (is_at_its_end t.on.moment t.control) _ _
       (λ due. cleared_made calls t h)
       (λ no. ticks_by_made role letters calls (answer_to_tick t.control.channel t.on.moment) t h)
+
+  -- ---- a recovery tunnel
+
+  letter_made : (c : ControlConnection) (number : ℕ) (o : Option Letter) (t : Turn) → Made t → Made (recovery_letter c number o t)
+  unfolding recovery_letter with_output
+  letter_made c number None t h = h
+  letter_made c number (Some l) t h = branch Made (nat_le (length l.avps) 65523) _ _ (λ fits. h) (λ long. h)
+
+  repeats_made : (a : Due) (r : Recovering) (t : Turn) → Made t → Made (repeats_on a r t)
+  unfolding repeats_on with_move
+  repeats_made tick.Quiet r t h = h
+  repeats_made (tick.Failed first) r t h = h
+  repeats_made (tick.Again number) r t h =
+      letter_made (connection_of r) number (letter_at (connection_of r).channel.outbox number) (with_move (move.RecoveryWentOn t.control.local) t) h
+
+  line_made : (calls : List (ℕ × Call)) (r : Recovering) (t : Turn) → Made t → Made (ticks_on calls r t).turn
+  unfolding ticks_on without_recovery with_move
+  line_made calls r t h =
+      let u = repeats_on (channel_tick (connection_of r).channel t.on.moment) r t in
+      let made = repeats_made (channel_tick (connection_of r).channel t.on.moment) r t h in
+      branch (λ (x : RecoveryTurn). Made x.turn) (is_lost t.on.moment (connection_of r)) _ _
+      (λ lost. cleared_made (with_calls u.changed calls) u made)
+      (λ going. branch (λ (x : RecoveryTurn). Made x.turn) (is_kept_long t.on.moment r) _ _ (λ long. made) (λ young. made))
+
+  pub recovery_makes : (calls : List (ℕ × Call)) (o : Option Recovering) (t : Turn) → t.added ≡ ss → (recovery_ticks calls o t).turn.added ≡ ss
+  unfolding recovery_ticks
+  recovery_makes calls None t h = h
+  recovery_makes calls (Some r) t h = branch (λ (x : RecoveryTurn). Made x.turn) t.cleared _ _ (λ gone. h) (λ there. line_made calls r t h)

@@ -31,7 +31,7 @@ use Rattle.call_link.specs.Turns.{Opens, linked}
 use Rattle.end_model.specs.declared.out.Out.{Out}
 use Rattle.end_model.specs.declared.out.Out.TheVariants.{Drop, Cause as Refused}
 use Rattle.end_model.specs.Calls.{row_for, advanced, rung, with_numbers, counted, is_request, is_up, is_short, is_long, are_too_many}
-use Rattle.end_model.specs.Tunnels.{Turn}
+use Rattle.end_model.specs.Tunnels.{Turn, is_current}
 use Rattle.end_model.specs.Links.{link_env, with_link, is_passing, looks_of}
 use Rattle.end_model.specs.Messages.{Told, told_by}
 use Rattle.end_model.specs.Turn.{with_output, with_move, with_change, with_call, with_new, drops, with_looks_of}
@@ -75,7 +75,7 @@ module _ (g : List ℕ) where
   abbrev Still : Turn → Type 0
   Still t = TellsIn g t
 
-  told : {outs : List Out} {cs : List CellChange} (o : Out) → gone_of_output o ≡ [] → Tells g outs cs → Tells g (outs ++ o ∷ []) cs
+  pub told : {outs : List Out} {cs : List CellChange} (o : Out) → gone_of_output o ≡ [] → Tells g outs cs → Tells g (outs ++ o ∷ []) cs
   told {outs} {cs} o none h = record { gone = none_more gone_of_output outs o none ∙ h.gone; killed = h.killed }
 
   looked : {outs : List Out} {cs : List CellChange} (ds : List CellChange) → flat_map killed_by ds ≡ [] → Tells g outs cs → Tells g outs (cs ++ ds)
@@ -360,6 +360,6 @@ module _ (g : List ℕ) where
   pub greets_still : (letters : List Letter) (t : Turn) → Still t → Still (greets letters t)
   unfolding greets
   greets_still letters t h =
-      branch Still (state_number t.control.state == 3 && t.control.channel.window.queued == 0 && is_over patience t.on.moment t.control.heard) _ _
+      branch Still (state_number t.control.state == 3 && is_current t.on.mode && t.control.channel.window.queued == 0 && is_over patience t.on.moment t.control.heard) _ _
       (λ due. greeted_still letters t h)
       (λ no. h)

@@ -1,7 +1,7 @@
 -- What a message says that names no tunnel.
-use Rattle.std.proofs.Common.{◌≡◌, ◌⊎◌, inl, inr, ℕ, List, refl, sym, ◌∙◌, Option, Some, None, Result, Ok, Err}
+use Rattle.std.proofs.Common.{◌≡◌, ◌⊎◌, inl, inr, ℕ, Bool, true, false, cond, List, refl, sym, ◌∙◌, Option, Some, None, Result, Ok, Err}
 use Rattle.std.proofs.lemmas.Bool.{eqb-false}
-use Rattle.std.specs.Prelude.{◌==◌}
+use Rattle.std.specs.Prelude.{◌==◌, is_some}
 use Rattle.wire_base.specs.declared.why.Why.{Why}
 use Rattle.wire_base.specs.declared.why.Why.TheVariants as why
 use Rattle.avp_codec.specs.declared.avp.Avp.{Avp}
@@ -17,7 +17,7 @@ use Rattle.control_message.specs.declared.message.Read.TheVariants.{Known, Ignor
 use Rattle.control_message.specs.declared.message.MessageError.{MessageError}
 use Rattle.control_message.specs.Reading.{message_of, kind_of_pairs, plain_short}
 use Rattle.end_model.specs.declared.event.Addressee.{Addressee}
-use Rattle.end_model.specs.declared.event.Addressee.TheVariants.{Opens, Stops, Answers, Main, Nobody}
+use Rattle.end_model.specs.declared.event.Addressee.TheVariants.{Opens, Recovers, Recovery, Stops, Answers, Main, Nobody}
 use Rattle.end_model.specs.Reading.{message_read, pairs_read, message_in, TunnelFault, tunnel_fault_read, tunnel_fault_of_pairs, tunnel_fault_in, stopped, told_or_none, zero_faulty, zero_read, zero_pairs, at_zero}
 use Rattle.step_laws.proofs.Lists.{branch}
 use Rattle.step_laws.proofs.Assigned.{message_assigns, inner_fault}
@@ -29,9 +29,10 @@ pub record IsFaultyOpening (body : List ℕ) : Type 0 where
   pub unread : message_in body ≡ Err why
   pub fault : (g : TunnelFault) → tunnel_fault_in body ≡ Some g → IsOfOpening body g
 
--- an SCCRQ that assigns the id, or one that can't be read
+-- an SCCRQ that assigns the id and asks for no recovery, or one that can't be read
 abbrev pub SaysOpening : List ℕ → ℕ → Type 0
-SaysOpening body remote = ((o : Opening) × (message_in body ≡ Ok (Sccrq o)) × (remote ≡ o.tunnel)) ⊎ IsFaultyOpening body
+SaysOpening body remote =
+    ((o : Opening) × (message_in body ≡ Ok (Sccrq o)) × (remote ≡ o.tunnel) × (is_some o.recovery ≡ false)) ⊎ IsFaultyOpening body
 
 -- one that opens a tunnel is an SCCRQ, and an SCCRP is for none, of an id that isn't 0; a StopCCN is no SCCRQ; none is for a tunnel of
 -- this end by the end's own id, and where it is for none, that isn't for want of room
@@ -39,7 +40,9 @@ abbrev pub ZeroSays : List ℕ → Addressee → Type 0
 ZeroSays body (Opens remote) = (remote ≡ 0 → ⊥) × SaysOpening body remote
 ZeroSays body (Stops remote) = (o : Opening) → message_in body ≡ Ok (Sccrq o) → ⊥
 ZeroSays body (Answers remote) = remote ≡ 0 → ⊥
+ZeroSays body (Recovers remote) = (remote ≡ 0 → ⊥) × ((o : Opening) × (message_in body ≡ Ok (Sccrq o)) × (remote ≡ o.tunnel) × (is_some o.recovery ≡ true))
 ZeroSays body (Main i) = ⊥
+ZeroSays body (Recovery i) = ⊥
 ZeroSays body (Nobody w) = w ≡ why.Queue → ⊥
 
 module _ (body : List ℕ) where
@@ -107,9 +110,14 @@ module _ (body : List ℕ) where
     unfolding message_read
     said m is = made ∙ (rw is refl)
 
+    says_sccrq : (o : Opening) → message_of avps ≡ Ok (Known (Sccrq o)) → (b : Bool) → is_some o.recovery ≡ b
+        → ZeroSays body (cond b (Recovers o.tunnel) (Opens o.tunnel))
+    says_sccrq o is true asks = (message_assigns avps (Sccrq o) is, (o, said (Sccrq o) is, refl, asks))
+    says_sccrq o is false none = (message_assigns avps (Sccrq o) is, inl (o, said (Sccrq o) is, refl, none))
+
     says_read : (r : Result Read MessageError) → message_of avps ≡ r → ZeroSays body (zero_read avps r)
     unfolding zero_read
-    says_read (Ok (Known (Sccrq o))) is = (message_assigns avps (Sccrq o) is, inl (o, said (Sccrq o) is, refl))
+    says_read (Ok (Known (Sccrq o))) is = says_sccrq o is (is_some o.recovery) refl
     says_read (Ok (Known (Sccrp o))) is = message_assigns avps (Sccrp o) is
     says_read (Ok (Known (StopCcn tunnel code error))) is =
         says_stopped (λ o again. let both : Ok (StopCcn tunnel code error) ≡ Ok (Sccrq o) = sym (said _ is) ∙ again in absurd cc) (Some tunnel)

@@ -29,13 +29,13 @@ use Rattle.end_model.specs.declared.moves.Closed.{Closed}
 use Rattle.end_model.specs.declared.moves.Move.{Move}
 use Rattle.end_model.specs.declared.moves.Move.TheVariants as move
 use Rattle.end_model.specs.Reading.{message_in, CallFault, call_fault_in, TunnelFault, tunnel_fault_in}
-use Rattle.end_model.specs.Tunnels.{Tunnel}
+use Rattle.end_model.specs.Tunnels.{Tunnel, mode_of, is_current}
 use Rattle.end_model.specs.Channels.{counts_acked}
 use Rattle.end_model.specs.Reasons.{fault_error}
 use Rattle.end_model.specs.End.{End, Stepped, plain_step}
 use Rattle.step_laws.specs.Moves.{may_take, Came, IsNext, GrantsCall, DeniesCall, AsksItself, HasUsedId, HasAllCalls, HasNoSession}
 use Rattle.step_laws.specs.Causes.{MayBeGranted}
-use Rattle.step_laws.specs.Room.{IsLeast, HasNone}
+use Rattle.step_laws.specs.Room.{IsLeast, HasNone, IsRecovering}
 use Rattle.step_laws.specs.Left.{AreSound, AreAsked}
 use Rattle.step_laws.specs.Steps.{AreKept}
 
@@ -61,6 +61,7 @@ pub record TakesRequest (e : End) (moment : ℕ) (ev : Event) : Type 0 where
   pub tunnel : Tunnel
   pub there : at e.tunnels id ≡ Some tunnel
   pub open_is : state_number tunnel.control.state ≡ 3
+  pub current : is_current (mode_of tunnel.recovery) ≡ true
   pub letter : Came
   pub next : IsNext ev tunnel letter
   pub named : letter.header.tunnel ≡ id
@@ -214,7 +215,8 @@ pub data RingIsAnswered (e : End) (who : List ℕ) (s : Stepped) : Type 0 where
   Waits : (a : Added) → flat_map ring_of_move s.moves ≡ move.Added a ∷ [] → IsBorn e who a → HasNone e Established
       → IsLeast e WaitCtlReply a.tunnel → RingIsAnswered e who s
   Opens : (o : Opened) (a : Added) → flat_map ring_of_move s.moves ≡ move.Opened o ∷ move.Added a ∷ [] → IsBorn e who a
-      → takes_id e.tunnel_ids ≡ Ok o.tunnel → o.peer ≡ e.config.lns → a.tunnel ≡ o.tunnel → HasNone e Established → HasNone e WaitCtlReply → RingIsAnswered e who s
+      → takes_id e.tunnel_ids ≡ Ok o.tunnel → o.peer ≡ e.config.lns → a.tunnel ≡ o.tunnel → HasNone e Established → HasNone e WaitCtlReply
+      → (IsRecovering e → ⊥) → RingIsAnswered e who s
   IsRefused : (c : CauseOf) → flat_map ring_of_move s.moves ≡ [] → flat_map cause_of_output s.outputs ≡ c ∷ [] → RingIsAnswered e who s
 
 -- ---- each step

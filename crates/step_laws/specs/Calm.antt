@@ -25,8 +25,9 @@ use Rattle.world_model.specs.declared.refusal.Refusal.TheVariants.{Unfit}
 use Rattle.world_model.specs.declared.packet.Packet.{Packet}
 use Rattle.world_model.specs.declared.stop.StopAt.{StopAt}
 use Rattle.world_model.specs.declared.held.Held.{Held}
-use Rattle.world_model.specs.World.{World, Node, Checkpoint, Sender, Lined, Committed, IsFull, IsCut, IsWhole, quiet_line, with_node, with_birth_at, with_birth, birth_of, is_born, moved, moved_all, sent, shown, shown_all, given, after_step, recorded, recorded_all, is_full, commits_by, commits, declared, lac_at, lns_at, with_call, with_tunnel, later, new_node, added, block_of, stepped, sender_of, held_line, taken_up, line}
-use Rattle.step_laws.specs.Lines.{tested_not, is_lac_at, is_lns_at, is_declared, has_call, has_tunnel, IsAt, is_at, at_moment, is_later, WasWhole, step_line, deliver_line, OfLoad, load_line, OfHand, hand_line}
+use Rattle.world_model.specs.declared.standing.Standing.{Standing}
+use Rattle.world_model.specs.World.{standing_of, with_standing, with_standing_at, with_answer_at, answer_in, has_made, makes_epoch, enters_epoch, World, Node, Checkpoint, Sender, Lined, Committed, IsFull, IsCut, IsWhole, quiet_line, with_node, with_birth_at, with_birth, birth_of, is_born, moved, moved_all, sent, shown, shown_all, given, after_step, recorded, recorded_all, is_full, commits_by, commits, declared, lac_at, lns_at, with_call, with_tunnel, later, new_node, added, block_of, stepped, sender_of, held_line, taken_up, line}
+use Rattle.step_laws.specs.Lines.{tested_not, is_lac_at, is_lns_at, is_declared, has_call, has_tunnel, IsAt, is_at, at_moment, is_later, WasWhole, step_line, deliver_line, OfLoad, load_line, hand_line}
 use Rattle.step_laws.specs.Hosts.{LacAt, with_host, entering, OfFrame, frame_line}
 
 -- a line that crashes no node, arms no stop, and starts none again
@@ -125,6 +126,37 @@ birth_calm w n session birth calm = by (at w.nodes n) refl
     by (Some node) is =
         let k = calm n node is in put_calm w n (record node { births = put node.births session birth }) calm (record { up = k.up; stop = k.stop })
 
+standing_calm : (w : World) (n i : ℕ) (s : Standing) → WorldIsCalm w → WorldIsCalm (with_standing w n i s)
+unfolding with_standing
+standing_calm w n i s calm = by (at w.nodes n) refl
+  where
+    by : (o : Option Node) → at w.nodes n ≡ o → WorldIsCalm (with_standing_at w n i s o)
+    by None is = calm
+    by (Some node) is =
+        let k = calm n node is in put_calm w n (record node { standings = put node.standings i s }) calm (record { up = k.up; stop = k.stop })
+
+answer_calm : (w : World) (n answer epoch : ℕ) → WorldIsCalm w → WorldIsCalm (with_answer_at w n answer epoch (at w.nodes n))
+answer_calm w n answer epoch calm = by (at w.nodes n) refl
+  where
+    by : (o : Option Node) → at w.nodes n ≡ o → WorldIsCalm (with_answer_at w n answer epoch o)
+    by None is = calm
+    by (Some node) is =
+        let k = calm n node is in put_calm w n (record node { answers = put node.answers answer epoch }) calm (record { up = k.up; stop = k.stop })
+
+made_calm : (w : World) (n i epoch : ℕ) → WorldIsCalm w → WorldIsCalm (has_made w n i epoch)
+made_calm w n i epoch calm = standing_calm w n i (record (standing_of w n i) { made = epoch }) calm
+
+epoch_calm : (w : World) (n i m j answer : ℕ) → WorldIsCalm w → WorldIsCalm (makes_epoch w n i m j answer)
+unfolding makes_epoch
+epoch_calm w n i m j answer calm =
+    let epoch = min ((standing_of w n i).made + 1) (2 ^ 64 - 1) in
+    answer_calm (has_made (has_made w n i epoch) m j epoch) n answer epoch
+    (made_calm (has_made w n i epoch) m j epoch (made_calm w n i epoch calm))
+
+enters_calm : (w : World) (n i epoch : ℕ) → WorldIsCalm w → WorldIsCalm (enters_epoch w n i epoch)
+unfolding enters_epoch
+enters_calm w n i epoch calm = standing_calm w n i (record (standing_of w n i) { epoch = epoch; lost = None }) calm
+
 moved_calm : (n : ℕ) (m : Move) (w : World) → WorldIsCalm w → WorldIsCalm (moved n w m)
 unfolding moved is_born
 moved_calm n (move.Added m) w calm =
@@ -156,6 +188,14 @@ moved_calm n (move.FrameSent m) w calm = calm
 moved_calm n (move.FrameUp m) w calm = calm
 moved_calm n (move.Cleared i booked) w calm = calm
 moved_calm n (move.Quiet i) w calm = calm
+moved_calm n (move.Froze m) w calm = epoch_calm w n m.tunnel (node_of m.peer) m.remote m.answer calm
+moved_calm n (move.ResetAttempting m) w calm = enters_calm w n m.tunnel (answer_in (at w.nodes (node_of m.peer)) m.answer) calm
+moved_calm n (move.ResetAnswering m) w calm = enters_calm w n m.tunnel (answer_in (at w.nodes n) m.answer) calm
+moved_calm n (move.Restored m) w calm = calm
+moved_calm n (move.Forgot m) w calm = calm
+moved_calm n (move.RecoveryWentOn i) w calm = calm
+moved_calm n (move.RecoveryEnded i) w calm = calm
+moved_calm n (move.Ignored i) w calm = calm
 
 all_calm : (n : ℕ) (ms : List Move) (w : World) → WorldIsCalm w → WorldIsCalm (moved_all n ms w)
 unfolding moved_all

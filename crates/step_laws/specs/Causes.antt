@@ -24,18 +24,22 @@ use Rattle.end_model.specs.declared.out.Out.TheVariants.{Cause}
 use Rattle.end_model.specs.declared.tunnel.Call.{Call}
 use Rattle.end_model.specs.Reading.{message_in, at_zero}
 use Rattle.end_model.specs.Calls.{row_for, is_told}
-use Rattle.end_model.specs.Tunnels.{Tunnel}
+use Rattle.end_model.specs.Tunnels.{Tunnel, Recovering, ByAnswer, connection_of, mode_of, is_current}
 use Rattle.end_model.specs.Messages.{is_acceptable}
 use Rattle.end_model.specs.declared.event.Addressee.TheVariants.{Opens, Answers}
 use Rattle.l2tp_header.specs.declared.header.Header.{Header}
 use Rattle.l2tp_header.specs.Reading.{header_of, body_of}
 use Rattle.end_model.specs.End.{End, plain_step}
 use Rattle.step_laws.specs.Letters.{Among}
-use Rattle.step_laws.specs.Moves.{has_all_tunnels, has_all_calls, may_take, IsIdInUse, IsRight, LacksSecret, IsUnknown, TookTooLong, Came, IsNext, HearsNext}
+use Rattle.step_laws.specs.Moves.{IsNamed, HearsLine, has_all_tunnels, has_all_calls, may_take, IsIdInUse, IsRight, LacksSecret, IsUnknown, TookTooLong, Came, IsNext, HearsNext}
 use Rattle.step_laws.specs.Links.{EndsCall}
+use Rattle.control_message.specs.declared.message.Recovery.{Recovery}
+use Rattle.recovery_tunnel.specs.Answers.{Answering}
+use Rattle.recovery_tunnel.specs.declared.progress.Progress.TheVariants as progress
+use Rattle.end_model.specs.Recovering.{told_by, told_by_fault, cause_in}
 use Rattle.step_laws.specs.Faults.{TellsFault, IsOf, IsAboutCall, CantBeAnswered, IsEventOf}
 use Rattle.step_laws.specs.Steps.{AreKept}
-use Rattle.step_laws.specs.Room.{RingsOver, RingsNew}
+use Rattle.step_laws.specs.Room.{RingsOver, RingsNew, RingsInRecovery}
 
 -- ---- calls that end
 
@@ -43,6 +47,7 @@ use Rattle.step_laws.specs.Room.{RingsOver, RingsNew}
 pub record IsTold (e : End) (t : Tunnel) (s : ℕ) (on : CallEvent) : Type 0 where
   pub id : ℕ
   pub there : at e.tunnels id ≡ Some t
+  pub current : is_current (mode_of t.recovery) ≡ true
   pub call : Call
   pub live : at t.calls s ≡ Some call
   pub row : is_told (row_for e.role call on).1 ≡ true
@@ -52,6 +57,7 @@ pub record IsLate (e : End) (moment : ℕ) (ev : Event) : Type 0 where
   pub id : ℕ
   pub tunnel : Tunnel
   pub there : at e.tunnels id ≡ Some tunnel
+  pub current : is_current (mode_of tunnel.recovery) ≡ true
   pub session : ℕ
   pub call : Call
   pub live : at tunnel.calls session ≡ Some call
@@ -64,6 +70,7 @@ pub record IsLate (e : End) (moment : ℕ) (ev : Event) : Type 0 where
 pub record CameAbout (e : End) (ev : Event) (t : Tunnel) (header : ℕ) (m : Message) : Type 0 where
   pub id : ℕ
   pub there : at e.tunnels id ≡ Some t
+  pub current : is_current (mode_of t.recovery) ≡ true
   pub open_is : state_number t.control.state ≡ 3
   pub came : HearsNext ev t header m
 
@@ -72,6 +79,7 @@ pub record CameFaulty (e : End) (ev : Event) (c : CauseOf) : Type 0 where
   pub id : ℕ
   pub tunnel : Tunnel
   pub there : at e.tunnels id ≡ Some tunnel
+  pub current : is_current (mode_of tunnel.recovery) ≡ true
   pub open_is : state_number tunnel.control.state ≡ 3
   pub letter : Came
   pub next : IsNext ev tunnel letter
@@ -118,6 +126,7 @@ pub record IsEndedCall (e : End) (moment : ℕ) (ev : Event) (why : CauseOf) : T
   pub id : ℕ
   pub tunnel : Tunnel
   pub there : at e.tunnels id ≡ Some tunnel
+  pub current : is_current (mode_of tunnel.recovery) ≡ true
   pub session : ℕ
   pub call : Call
   pub live : at tunnel.calls session ≡ Some call
@@ -130,6 +139,7 @@ pub record IsEndedCall (e : End) (moment : ℕ) (ev : Event) (why : CauseOf) : T
 pub record IsClosedOn (e : End) (t : Tunnel) (on : TunnelEvent) : Type 0 where
   pub id : ℕ
   pub there : at e.tunnels id ≡ Some t
+  pub current : is_current (mode_of t.recovery) ≡ true
   pub row : row_of rows t.control.state on ≡ (state.Closed, action.SendStopCcn)
 
 -- the next letter of a tunnel came, and has a fault of which this cause tells, on which the tunnel's table has it closed; one about a call
@@ -160,7 +170,35 @@ pub record WouldOpen (e : End) (ev : Event) (o : Opening) : Type 0 where
   pub body : List ℕ
   pub came : NamesNone ev peer body
   pub said : message_in body ≡ Ok (Sccrq o)
+  pub ordinary : is_some o.recovery ≡ false
   pub alone : IsUnknown e peer o.tunnel
+
+-- no recovery tunnel of this end answers the peer's attempt with this id yet
+abbrev pub IsUnansweredYet : End → ℕ → ℕ → Type 0
+IsUnansweredYet e peer remote = (i : ℕ) (t : Tunnel) (a : Answering) → at e.tunnels i ≡ Some t → t.control.peer ≡ peer → t.recovery ≡ Some (ByAnswer a)
+    → a.connection.remote ≡ remote → ⊥
+
+-- an SCCRQ came that asks for the recovery of a tunnel, and isn't answered yet
+pub record WouldRecover (e : End) (ev : Event) (o : Opening) : Type 0 where
+  pub peer : ℕ
+  pub body : List ℕ
+  pub came : NamesNone ev peer body
+  pub said : message_in body ≡ Ok (Sccrq o)
+  pub recovery : Recovery
+  pub asks : o.recovery ≡ Some recovery
+  pub alone : IsUnansweredYet e peer o.tunnel
+
+-- the next letter came for a recovery tunnel, which refuses it for this cause
+pub record IsRefusedOnLine (e : End) (ev : Event) (c : CauseOf) : Type 0 where
+  pub id : ℕ
+  pub tunnel : Tunnel
+  pub there : at e.tunnels id ≡ Some tunnel
+  pub recovery : Recovering
+  pub has : tunnel.recovery ≡ Some recovery
+  pub letter : Came
+  pub hears : HearsLine ev tunnel.control.peer (connection_of recovery) letter
+  pub refused : ((m : Message) × (message_in letter.body ≡ Ok m) × (told_by e.config.secret m recovery ≡ progress.Given c))
+      ⊎ ((cause_in letter.body ≡ Some c) × (told_by_fault (Some c) recovery ≡ progress.Given c))
 
 -- an opening that isn't acceptable: it came in a tunnel, which is closed, or would open one
 pub data IsNotAccepted (e : End) (ev : Event) (o : Opening) : Type 0 where
@@ -237,6 +275,8 @@ pub data LackIds (e : End) (ev : Event) : Type 0 where
       → takes_id e.session_ids ≡ Err x → LackIds e ev
   ForPeer : (o : Opening) (x : IdError) → WouldOpen e ev o → is_acceptable e.config.secret None o ≡ true → has_all_tunnels e ≡ false
       → takes_id e.tunnel_ids ≡ Err x → LackIds e ev
+  ForAnswer : (o : Opening) (x : IdError) (w : WouldRecover e ev o) → o.version ≡ 256 → IsNamed e w.peer w.recovery
+      → (LacksSecret e.config.secret o.challenge → ⊥) → (takes_id e.tunnel_ids ≡ Err x) ⊎ (takes_id e.recovery_ids ≡ Err x) → LackIds e ev
 
 -- what a cause says; those that aren't told yet say nothing that can be so
 abbrev pub Stands : End → ℕ → Event → CauseOf → Type 0
@@ -246,22 +286,29 @@ Stands e moment ev cause.Operator =
 Stands e moment ev cause.Line = (s : ℕ) × (t : Tunnel) × (ev ≡ Hang s) × IsTold e t s call_event.LineDrop
 Stands e moment ev cause.Setup = IsLate e moment ev
 Stands e moment ev cause.Lcp = IsEndedCall e moment ev cause.Lcp
-Stands e moment ev cause.Avp = CameClosing e ev cause.Avp
+Stands e moment ev cause.Avp = CameClosing e ev cause.Avp ⊎ IsRefusedOnLine e ev cause.Avp
 Stands e moment ev cause.Value =
-    CameFaulty e ev cause.Value ⊎ (CameClosing e ev cause.Value ⊎ CameFaultyOpening e ev cause.Value)
+    CameFaulty e ev cause.Value ⊎ (CameClosing e ev cause.Value ⊎ (CameFaultyOpening e ev cause.Value ⊎ IsRefusedOnLine e ev cause.Value))
 Stands e moment ev cause.Mandatory =
-    CameFaulty e ev cause.Mandatory ⊎ (CameClosing e ev cause.Mandatory ⊎ CameFaultyOpening e ev cause.Mandatory)
-Stands e moment ev cause.Version = (o : Opening) × IsNotAccepted e ev o × (o.version ≡ 256 → ⊥)
-Stands e moment ev cause.Recover = (o : Opening) × IsNotAccepted e ev o × WantsRecovery o
+    CameFaulty e ev cause.Mandatory ⊎ (CameClosing e ev cause.Mandatory ⊎ (CameFaultyOpening e ev cause.Mandatory ⊎ IsRefusedOnLine e ev cause.Mandatory))
+Stands e moment ev cause.Version =
+    ((o : Opening) × (IsNotAccepted e ev o ⊎ WouldRecover e ev o) × (o.version ≡ 256 → ⊥)) ⊎ IsRefusedOnLine e ev cause.Version
+Stands e moment ev cause.Recover =
+    ((o : Opening) × IsNotAccepted e ev o × WantsRecovery o)
+    ⊎ ((o : Opening) × (w : WouldRecover e ev o) × (o.version ≡ 256) × (IsNamed e w.peer w.recovery → ⊥))
 Stands e moment ev cause.Secret =
-    ((o : Opening) × IsNotAccepted e ev o × IsOrdinary o × FailsBySecret e ev o × MayOpen e ev o) ⊎ IsWronglyConnected e ev
-Stands e moment ev cause.State = ((t : Tunnel) × IsOutOfState e ev t) ⊎ (IsOutOfOrder e ev ⊎ CameAnswer ev)
+    ((o : Opening) × IsNotAccepted e ev o × IsOrdinary o × FailsBySecret e ev o × MayOpen e ev o)
+    ⊎ (IsWronglyConnected e ev
+    ⊎ (((o : Opening) × (w : WouldRecover e ev o) × (o.version ≡ 256) × IsNamed e w.peer w.recovery × LacksSecret e.config.secret o.challenge)
+    ⊎ IsRefusedOnLine e ev cause.Secret))
+Stands e moment ev cause.State = ((t : Tunnel) × IsOutOfState e ev t) ⊎ (IsOutOfOrder e ev ⊎ (CameAnswer ev ⊎ IsRefusedOnLine e ev cause.State))
 Stands e moment ev cause.Session = (t : Tunnel) × (remote : ℕ) × Asks e ev t remote × (TakesNoCalls e → ⊥) × IsIdInUse t remote
 Stands e moment ev cause.Calls =
     ((t : Tunnel) × RingsOver e ev t × (has_all_calls t.calls ≡ true))
     ⊎ ((t : Tunnel) × (remote : ℕ) × Asks e ev t remote × (TakesNoCalls e → ⊥) × (IsIdInUse t remote → ⊥) × (has_all_calls t.calls ≡ true))
 Stands e moment ev cause.Queue = (t : Tunnel) × RingsOver e ev t × (has_all_calls t.calls ≡ false) × (may_take t.control t.calls ≡ false)
 Stands e moment ev cause.Ids = LackIds e ev
+Stands e moment ev cause.Recovering = RingsInRecovery e ev
 Stands e moment ev cause.Tunnels =
     (RingsNew e ev ⊎ ((ev ≡ OpenTunnel) ⊎ ((o : Opening) × WouldOpen e ev o × IsOrdinary o))) × (has_all_tunnels e ≡ true)
 Stands e moment ev cause.Outgoing = (t : Tunnel) × (header : ℕ) × (remote : ℕ) × CameAbout e ev t header (Ocrq remote)

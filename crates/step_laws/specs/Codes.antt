@@ -15,10 +15,11 @@ use Rattle.end_model.specs.Tunnels.{Tunnel}
 use Rattle.end_model.specs.Reasons.{fault_error}
 use Rattle.end_model.specs.End.{End}
 use Rattle.control_message.specs.declared.message.Opening.{Opening}
+use Rattle.control_message.specs.declared.message.Recovery.{Recovery}
 use Rattle.tunnel_fsm.specs.declared.table.TunnelEvent.{TunnelEvent}
 use Rattle.end_model.specs.declared.moves.Closed.{Closed}
 use Rattle.end_model.specs.declared.moves.Declined.{Declined}
-use Rattle.step_laws.specs.Moves.{Came, DeniesCall, AsksItself, HasUsedId, HasAllCalls, HasNoSession, StandsAgainst, OtherVersion, Recovers, NoTunnel, Challenges, NoId, ClosesIn, HasOtherVersion, HasRecovery, HasOtherSecret, ClosesConnected, WronglyConnected, ComesUnawaited, IsUnawaited, WhyDeclined, AnOpening, AFaultyOpening, AnAnswer, LetterCloses, WhyCloses, ByOperator, ByLetter, BySccrq, BySccrp, ByScccn, ByFault, WhyEnds, IsLate, IsDropped, IsHungUp, IsEnded, IsAsked, IsReplied, IsConnected, HasFault, WhyRefused, IsNotGranted, IsOutgoing, IsReplyToNone, IsWrong}
+use Rattle.step_laws.specs.Moves.{Came, DeniesCall, AsksItself, HasUsedId, HasAllCalls, HasNoSession, StandsAgainst, OtherVersion, NoTunnel, Challenges, NoId, StandsAgainstRecovery, OfOtherVersion, OfNoTunnel, OfNoSecret, OfNoId, ClosesIn, HasOtherVersion, HasRecovery, HasOtherSecret, ClosesConnected, WronglyConnected, ComesUnawaited, IsUnawaited, WhyDeclined, AnOpening, ARecovery, AFaultyOpening, AnAnswer, LetterCloses, WhyCloses, ByOperator, ByLetter, BySccrq, BySccrp, ByScccn, ByFault, WhyEnds, IsLate, IsDropped, IsHungUp, IsEnded, IsAsked, IsReplied, IsConnected, HasFault, WhyRefused, IsNotGranted, IsOutgoing, IsReplyToNone, IsWrong}
 
 -- 16 bits each
 abbrev pub CodesFit : ℕ → Option ℕ → Type 0
@@ -93,10 +94,17 @@ refusal_codes_fit e t header said fault m (IsWrong f is same result error) =
 -- the codes of each reason for which no tunnel is opened
 against_fits : (e : End) (o : Opening) (result : ℕ) (error : Option ℕ) → StandsAgainst e o result error → CodesFit result error
 against_fits e o result error (OtherVersion version r x) = fits result error 5 None (omega arith, tt) r x
-against_fits e o result error (Recovers version recovery r x) = fits result error 2 (Some 1) (omega arith, omega arith) r x
-against_fits e o result error (NoTunnel version recovery all r x) = fits result error 2 (Some 4) (omega arith, omega arith) r x
-against_fits e o result error (Challenges version recovery fewer challenge r x) = fits result error 4 None (omega arith, tt) r x
-against_fits e o result error (NoId version recovery fewer challenge y none r x) = fits result error 2 (Some 4) (omega arith, omega arith) r x
+against_fits e o result error (NoTunnel version all r x) = fits result error 2 (Some 4) (omega arith, omega arith) r x
+against_fits e o result error (Challenges version fewer challenge r x) = fits result error 4 None (omega arith, tt) r x
+against_fits e o result error (NoId version fewer challenge y none r x) = fits result error 2 (Some 4) (omega arith, omega arith) r x
+
+-- and for which no recovery is answered
+recovery_fits : (e : End) (peer : ℕ) (o : Opening) (r : Recovery) (result : ℕ) (error : Option ℕ) → StandsAgainstRecovery e peer o r result error
+    → CodesFit result error
+recovery_fits e peer o k result error (OfOtherVersion version r x) = fits result error 5 None (omega arith, tt) r x
+recovery_fits e peer o k result error (OfNoTunnel version none r x) = fits result error 2 (Some 1) (omega arith, omega arith) r x
+recovery_fits e peer o k result error (OfNoSecret version named challenge r x) = fits result error 4 None (omega arith, tt) r x
+recovery_fits e peer o k result error (OfNoId version named challenge y none r x) = fits result error 2 (Some 4) (omega arith, omega arith) r x
 
 -- and of each for which an opening closes a tunnel
 closing_fits : (secret asked : Option (List ℕ)) (o : Opening) (result : ℕ) (error : Option ℕ) → ClosesIn secret asked o result error → CodesFit result error
@@ -126,7 +134,8 @@ stop_codes_fit secret t ev on m (ByLetter told k next spare why other known) = l
 
 -- and those of one that declines an opening
 pub decline_codes_fit : (e : End) (body : List ℕ) (m : Declined) → WhyDeclined e body m → CodesFit m.result m.error
-decline_codes_fit e body m (AnOpening o said known unknown against) = against_fits e o m.result m.error against
+decline_codes_fit e body m (AnOpening o said plain known unknown against) = against_fits e o m.result m.error against
+decline_codes_fit e body m (ARecovery o said r asks known against) = recovery_fits e m.peer o r m.result m.error against
 decline_codes_fit e body m (AFaultyOpening g to unknown is on result error) =
     fits m.result m.error 2 (Some (fault_error g.cause)) (omega arith, fault_fits g.cause) result error
 decline_codes_fit e body m (AnAnswer to result error) = fits m.result m.error 7 None (omega arith, tt) result error

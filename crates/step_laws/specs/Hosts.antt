@@ -5,7 +5,7 @@ use Rattle.id_table.specs.Ids.{at}
 use Rattle.wire_base.specs.declared.why.Why.{Why}
 use Rattle.wire_base.specs.declared.why.Why.TheVariants as why
 use Rattle.wire_base.specs.declared.cause.Cause.{Cause}
-use Rattle.pppoe_session.specs.Subscribers.{subscriber_of, is_from, is_repeat, repeat_in}
+use Rattle.pppoe_session.specs.Subscribers.{is_repeat, repeat_in}
 use Rattle.pppoe_discovery.specs.declared.outcome.Discovered.{Discovered}
 use Rattle.pppoe_discovery.specs.declared.outcome.Discovered.TheVariants as outcome
 use Rattle.wire_base.specs.declared.cause.Cause.TheVariants as cause
@@ -32,7 +32,7 @@ use Rattle.world_model.specs.declared.refusal.Refusal.{Refusal}
 use Rattle.end_names.specs.Names.{host_name, mac_of}
 use Rattle.end_model.specs.End.{End, step}
 use Rattle.world_model.specs.Texts.{Entry, Drops, Frames}
-use Rattle.end_model.specs.Access.{Access, Coming, Ignores, Answers, Runs, Enters, coming, led_to, about_call, of_call, wants_call, pads_of, entered}
+use Rattle.end_model.specs.Access.{Access, is_host, Coming, Ignores, Answers, Runs, Enters, coming, led_to, of_call, wants_call, pads_of, entered}
 use Rattle.world_model.specs.World.{World, Node, Lined, lac_at, retold, answer_entries, replies, enters, comes, comes_by, framed, stepped, block_of}
 use Rattle.step_laws.specs.Lines.{is_lac_at, IsAt, is_at}
 
@@ -43,7 +43,7 @@ discovered_at a e bytes = discovered a.key (mac_of e.config.number) (host_name e
 -- a call that is live, and whose host is the source
 pub record IsOfHost (a : Access) (e : End) (src : List ℕ) (session : ℕ) : Type 0 where
   pub live : is_some (at e.calls session) ≡ true
-  pub holds : is_from src (subscriber_of a.held session) ≡ true
+  pub holds : is_host a src session ≡ true
 
 -- what a host does in its call: it sends the frame that a session frame holds, or leaves by a PADT
 pub data HostDoes (a : Access) (e : End) (bytes : List ℕ) : Event → Type 0 where
@@ -84,7 +84,7 @@ found_held (x ∷ xs) src uniq session h = by (found_held xs src uniq session) (
 
 module _ (a : Access) (e : End) (bytes : List ℕ) where
   of_host : (src : List ℕ) (session : ℕ) (ev ev' : Event) (live is : Bool) → is_some (at e.calls session) ≡ live
-      → is_from src (subscriber_of a.held session) ≡ is → of_call live is ev ≡ Runs ev' → IsOfHost a e src session × (ev ≡ ev')
+      → is_host a src session ≡ is → of_call live is ev ≡ Runs ev' → IsOfHost a e src session × (ev ≡ ev')
   of_host src session ev ev' false is l i h = absurd cc
   of_host src session ev ev' true false l i h = absurd cc
   of_host src session ev ev' true true l i h = (record { live = l; holds = i }, cc)
@@ -103,11 +103,11 @@ module _ (a : Access) (e : End) (bytes : List ℕ) where
   led_does (outcome.Reply because frame) is ev h = absurd cc
   led_does (outcome.Admit src service uniq relay) is ev h = absurd (wants_none src uniq (outcome.Admit src service uniq relay) (repeat_in a.held src uniq) ev h)
   led_does (outcome.Left src session) is ev h =
-      let k = of_host src session (Hang session) ev (is_some (at e.calls session)) (is_from src (subscriber_of a.held session)) refl refl h in
+      let k = of_host src session (Hang session) ev (is_some (at e.calls session)) (is_host a src session) refl refl h in
       subst (HostDoes a e bytes) k.1 (HostLeaves src session is k.0)
   led_does (outcome.Carried src session start stop) is ev h =
       let frame = take (stop - start) (drop start bytes) in
-      let k = of_host src session (Payload session frame) ev (is_some (at e.calls session)) (is_from src (subscriber_of a.held session)) refl refl h in
+      let k = of_host src session (Payload session frame) ev (is_some (at e.calls session)) (is_host a src session) refl refl h in
       subst (HostDoes a e bytes) k.1 (HostSends src session start stop is k.0)
 
   -- whatever a frame makes an end do is what its host does
@@ -150,9 +150,9 @@ module _ (a : Access) (e : End) (bytes : List ℕ) where
   led_refused (outcome.Admit src service uniq relay) c frame h =
       absurd (refused_none src uniq (outcome.Admit src service uniq relay) (repeat_in a.held src uniq) c frame h)
   led_refused (outcome.Left src session) c frame h =
-      absurd (of_call_none (is_some (at e.calls session)) (is_from src (subscriber_of a.held session)) (Hang session) c frame h)
+      absurd (of_call_none (is_some (at e.calls session)) (is_host a src session) (Hang session) c frame h)
   led_refused (outcome.Carried src session start stop) c frame h =
-      absurd (of_call_none (is_some (at e.calls session)) (is_from src (subscriber_of a.held session)) (Payload session (take (stop - start) (drop start bytes))) c frame h)
+      absurd (of_call_none (is_some (at e.calls session)) (is_host a src session) (Payload session (take (stop - start) (drop start bytes))) c frame h)
 
   -- a frame that is answered with a cause is a PADR that discovery refuses for it
   pub discovery_refuses : (c : Cause) (frame : List ℕ) → coming a e bytes ≡ Answers (Some c) frame → discovered_at a e bytes ≡ outcome.Reply (Some c) frame
@@ -199,9 +199,9 @@ module _ (a : Access) (e : End) (bytes : List ℕ) where
   led_answered (outcome.Admit src service uniq relay) is frame h =
       inr (wants_again src service uniq relay (repeat_in a.held src uniq) frame is refl h)
   led_answered (outcome.Left src session) is frame h =
-      absurd (of_call_silent (is_some (at e.calls session)) (is_from src (subscriber_of a.held session)) (Hang session) frame h)
+      absurd (of_call_silent (is_some (at e.calls session)) (is_host a src session) (Hang session) frame h)
   led_answered (outcome.Carried src session start stop) is frame h =
-      absurd (of_call_silent (is_some (at e.calls session)) (is_from src (subscriber_of a.held session)) (Payload session (take (stop - start) (drop start bytes)))
+      absurd (of_call_silent (is_some (at e.calls session)) (is_host a src session) (Payload session (take (stop - start) (drop start bytes)))
       frame h)
 
   -- a frame that is answered without a cause is a PADI, which gets the PADO of discovery, or such a PADR
@@ -233,9 +233,9 @@ module _ (a : Access) (e : End) (bytes : List ℕ) where
   led_new (outcome.Reply because given) src uniq asked h = absurd cc
   led_new (outcome.Admit from service tag relay) src uniq asked h = sym (wants_new from service tag relay (repeat_in a.held from tag) src uniq asked h)
   led_new (outcome.Left from session) src uniq asked h =
-      absurd (of_call_old (is_some (at e.calls session)) (is_from from (subscriber_of a.held session)) (Hang session) src uniq asked h)
+      absurd (of_call_old (is_some (at e.calls session)) (is_host a from session) (Hang session) src uniq asked h)
   led_new (outcome.Carried from session start stop) src uniq asked h =
-      absurd (of_call_old (is_some (at e.calls session)) (is_from from (subscriber_of a.held session)) (Payload session (take (stop - start) (drop start bytes)))
+      absurd (of_call_old (is_some (at e.calls session)) (is_host a from session) (Payload session (take (stop - start) (drop start bytes)))
       src uniq asked h)
 
   pub host_enters : (src : List ℕ) (uniq : Option (List ℕ)) (asked : Discovered) → coming a e bytes ≡ Enters src uniq asked → discovered_at a e bytes ≡ asked
@@ -315,9 +315,9 @@ module _ (a : Access) (e : End) (bytes : List ℕ) where
   led_other (outcome.Reply because given) other h = cc
   led_other (outcome.Admit src service uniq relay) other h = wants_other src uniq (outcome.Admit src service uniq relay) (repeat_in a.held src uniq) h
   led_other (outcome.Left src session) other h =
-      call_other (is_some (at e.calls session)) (is_from src (subscriber_of a.held session)) (Hang session) h
+      call_other (is_some (at e.calls session)) (is_host a src session) (Hang session) h
   led_other (outcome.Carried src session start stop) other h =
-      call_other (is_some (at e.calls session)) (is_from src (subscriber_of a.held session)) (Payload session (take (stop - start) (drop start bytes))) h
+      call_other (is_some (at e.calls session)) (is_host a src session) (Payload session (take (stop - start) (drop start bytes))) h
 
   -- no frame is ignored for want of room
   pub never_full : coming a e bytes ≡ Ignores why.Queue → ⊥

@@ -1,5 +1,5 @@
 -- The letters that moves give, and what a step's outputs are of its moves.
-use Rattle.std.specs.Prelude.{◌≡◌, ℕ, ◌^◌, ◌<◌, ◌⊎◌, true, false, List, [], ◌∷◌, slice_get, Option, None, Some}
+use Rattle.std.specs.Prelude.{◌≡◌, ℕ, ◌^◌, ◌<◌, ◌⊎◌, true, false, List, [], ◌∷◌, slice_get, Option, None, Some, is_some}
 use Rattle.l2tp_header.specs.Spelling.{control_bytes, data_bytes}
 use Rattle.l2tp_header.specs.Grammar.{FitsWord}
 use Rattle.wire_base.specs.declared.letter.Letter as wire
@@ -17,8 +17,15 @@ use Rattle.end_model.specs.declared.moves.FrameSent.{FrameSent}
 use Rattle.end_model.specs.declared.moves.Place.{Place}
 use Rattle.end_model.specs.declared.moves.Move.{Move}
 use Rattle.end_model.specs.declared.moves.Move.TheVariants as move
-use Rattle.end_model.specs.Tunnels.{Tunnel}
+use Rattle.end_model.specs.Tunnels.{Tunnel, Recovering, ByAttempt, ByAnswer, connection_of}
 use Rattle.end_model.specs.Messages.{opening_of, request_of, connection}
+use Rattle.control_message.specs.declared.message.Opening.{Opening}
+use Rattle.control_message.specs.declared.message.Recovery.{Recovery}
+use Rattle.control_message.specs.Pairs.{pairs_of}
+use Rattle.avp_codec.specs.Spelling.{spelling}
+use Rattle.wire_base.specs.declared.cause.Cause.{Cause}
+use Rattle.recovery_tunnel.specs.Connections.{ControlConnection, letter_of, stop_of}
+use Rattle.recovery_tunnel.specs.Answers.{Answering}
 
 -- one of them is this one
 abbrev pub Among : {X : Type 0} → X → List X → Type 0
@@ -57,8 +64,38 @@ letters_of role c m = []
 abbrev pub letter_at : Tunnel → ℕ → Option wire.Letter
 letter_at t number = slice_get t.letters (place_of t.control.channel number)
 
+-- ---- what recovery tunnels say
+
+-- an SCCRQ that asks for the recovery of the tunnel with this id of this end's, and tells the recovery tunnel's id and draw number
+abbrev pub AsksRecovery : ℕ → ControlConnection → Message → Type 0
+AsksRecovery i c m = (o : Opening) × (named : Recovery) × (m ≡ Sccrq o) × (o.tunnel ≡ c.local) × (o.recovery ≡ Some named) × (named.sender ≡ i)
+    × (o.attempt ≡ Some c.draw)
+
+-- an SCCCN, of an attempt that reset its tunnel
+abbrev pub ConfirmsRecovery : ControlConnection → Message → Type 0
+ConfirmsRecovery c m = (response : Option (List ℕ)) × (m ≡ Scccn response) × (is_some c.reset ≡ true)
+
+-- an SCCRP, with the numbers that it suggests
+abbrev pub AnswersRecovery : Answering → Message → Type 0
+AnswersRecovery a m = (o : Opening) × (m ≡ Sccrp o) × (o.tunnel ≡ a.connection.local) × (o.suggested ≡ Some a.suggested)
+    × (o.attempt ≡ Some a.connection.draw)
+
+-- a StopCCN that says why it refuses what came
+abbrev pub StopsRecovery : ControlConnection → Message → Type 0
+StopsRecovery c m = (why : Cause) × (m ≡ stop_of c.local why)
+
+-- what a letter of a recovery tunnel says, of the tunnel with this id
+abbrev pub IsOfRecovery : ℕ → Recovering → Message → Type 0
+IsOfRecovery i (ByAttempt c) m = AsksRecovery i c m ⊎ (ConfirmsRecovery c m ⊎ StopsRecovery c m)
+IsOfRecovery i (ByAnswer a) m = AnswersRecovery a m ⊎ StopsRecovery a.connection m
+
+-- each letter that it holds is one of those, and has the session id 0
+abbrev pub IsRecoveryLetter : ℕ → Recovering → wire.Letter → Type 0
+IsRecoveryLetter i r l = (m : Message) × IsOfRecovery i r m × (l ≡ letter_of m)
+
 -- the bytes that are sent in a tunnel, by the ids that both ends assigned: the letter with a number, of those that the tunnel
--- keeps; an acknowledgement alone; or a frame that a move of the step sends. Nr counts what the tunnel has taken
+-- keeps; an acknowledgement alone; or a frame that a move of the step sends. Nr counts what the tunnel has taken. In its recovery
+-- tunnel what goes is a letter of that, or an acknowledgement alone, to the id that the other end assigned; of its numbers nothing is said
 pub data Carries (t : Tunnel) (moves : List Move) (bytes : List ℕ) (o : Origin) : Type 0 where
   ALetter : (l : wire.Letter) (number : ℕ) → number < 2 ^ 64 → letter_at t number ≡ Some l
       → o ≡ origin.Control (record { tunnel = t.control.local; ns = number; nr = t.control.channel.inbox.taken; empty = false })
@@ -69,6 +106,11 @@ pub data Carries (t : Tunnel) (moves : List Move) (bytes : List ℕ) (o : Origin
       → bytes ≡ control_bytes t.control.remote 0 (on_wire number) (on_wire t.control.channel.inbox.taken) [] → Carries t moves bytes o
   AFrame : (f : FrameSent) → Among (move.FrameSent f) moves → f.tunnel ≡ t.control.local → f.peer ≡ t.control.peer → FitsWord f.number
       → o ≡ origin.Data f.session → bytes ≡ data_bytes t.control.remote f.remote f.number f.frame → Carries t moves bytes o
+  InRecovery : (r : Recovering) → t.recovery ≡ Some r → (m : Message) → IsOfRecovery t.control.local r m → (number nr : ℕ)
+      → o ≡ origin.Recovery (connection_of r).local number false
+      → bytes ≡ control_bytes (connection_of r).remote 0 (on_wire number) nr (spelling (pairs_of m)) → Carries t moves bytes o
+  NothingInRecovery : (r : Recovering) → t.recovery ≡ Some r → (number nr : ℕ) → o ≡ origin.Recovery (connection_of r).local number true
+      → bytes ≡ control_bytes (connection_of r).remote 0 (on_wire number) nr [] → Carries t moves bytes o
 
 -- a frame that a move sends is in an output
 abbrev pub HasOutput : List Out → Move → Type 0

@@ -4,12 +4,15 @@ pub mod Links
 pub mod Failing
 pub mod Hides
 pub mod Arrivals
+pub mod Openings
+pub mod Setups
 pub mod Moves
 pub mod Steps
 pub mod Left
 pub mod Looks
 pub mod Ups
 pub mod Gone
+pub mod Starts
 pub mod Room
 pub mod Faults
 pub mod Causes

@@ -158,7 +158,7 @@ module _ (P : Type 0) (w : World) (number n : ℕ) (node : Node) (sender : Optio
       → after_step w number n (record node { checkpoint = k }) sender s ≡ x → P
 
   abbrev pub WasCut : Type 0
-  WasCut = (k : Checkpoint) → commits node.checkpoint (contents_of node.end s) ≡ IsCut k → cut_line w number n (record node { end = s.end }) k ≡ x → P
+  WasCut = (k : Checkpoint) → commits node.checkpoint (contents_of node.end s) ≡ IsCut k → cut_line w number n node k ≡ x → P
 
   pub committed_line : WasWhole → WasCut → committed w number n node sender s ≡ Ok x → P
   unfolding committed settled
@@ -185,7 +185,7 @@ module _ (P : Type 0) (w : World) (number : ℕ) (x : Lined) (d : Result Lined R
   comes_to p node = stepped w number p.to (Datagram (address_of p.from) p.bytes) (sender_of p.from p.origin) (Ok node)
 
   abbrev pub Arrives : Option Packet → Type 0
-  Arrives o = (p : Packet) (node : Node) → o ≡ Some p → at w.nodes p.to ≡ Some node → node.up ≡ true → refused_by p node p.origin ≡ None
+  Arrives o = (p : Packet) (node : Node) → o ≡ Some p → at w.nodes p.to ≡ Some node → node.up ≡ true → refused_by w p node p.origin ≡ None
       → d ≡ comes_to p node → comes_to p node ≡ Ok x → P
 
   arrived : (p : Packet) (node : Node) (r : Option Refusal) → (r ≡ None → d ≡ comes_to p node → comes_to p node ≡ Ok x → P)
@@ -205,7 +205,7 @@ module _ (P : Type 0) (w : World) (number : ℕ) (x : Lined) (d : Result Lined R
         where
           up_or_down : (node : Node) → at w.nodes p.to ≡ Some node → (b : Bool) → node.up ≡ b
               → d ≡ delivers_it w number (if b then Ok (p, node) else Err why.Down) → P
-          up_or_down node there true up e = arrived p node (refused_by p node p.origin) (λ young so leads. on p node refl there up young so leads) e h
+          up_or_down node there true up e = arrived p node (refused_by w p node p.origin) (λ young so leads. on p node refl there up young so leads) e h
           up_or_down node there false up e = let none : Err (Unfit why.Down) ≡ Ok x = sym e ∙ h in absurd cc
 
 -- ---- data packets that are carried in two steps

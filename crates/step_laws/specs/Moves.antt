@@ -1,40 +1,28 @@
 -- What each move needs before it, and what it changes.
-use Rattle.step_laws.specs.Callers.{IsRing, WantsTunnel}
-use Rattle.std.specs.Prelude.{◌≡◌, ℕ, ◌+◌, ◌%◌, ◌<◌, ◌≤◌, ◌⊎◌, Bool, true, false, ◌==◌, if◌then◌else◌, nat_le, nat_lt, List, [], ◌∷◌, ◌++◌, drop, map, length, Option, None, Some, is_some, unwrap_or, Result, Ok, Err}
-use Rattle.wire_base.specs.declared.why.Why.{Why}
+use Rattle.std.specs.Prelude.{◌≡◌, ℕ, ◌+◌, ◌%◌, ◌<◌, ◌≤◌, ◌⊎◌, Bool, true, false, nat_lt, List, [], ◌∷◌, drop, map, length, Option, None, Some, is_some, unwrap_or, Ok, Err}
 use Rattle.id_table.specs.Ids.{at, put, without, ids_of}
 use Rattle.id_source.specs.declared.IdError.{IdError}
 use Rattle.id_source.specs.Spaces.{takes_id, after_id}
 use Rattle.l2tp_header.specs.declared.header.Header.{Header}
-use Rattle.l2tp_header.specs.Reading.{header_of, body_of}
+use Rattle.l2tp_header.specs.Reading.{header_of}
 use Rattle.control_message.specs.declared.message.Message.{Message}
 use Rattle.control_message.specs.declared.message.Message.TheVariants.{Sccrq, Sccrp, Scccn, StopCcn, Hello, Ocrq, Ocrp, Occn, Icrq, Icrp, Iccn, Cdn, Wen, Sli, Fsq, Fsr}
-use Rattle.control_message.specs.declared.kind.Kind.{Kind}
-use Rattle.control_message.specs.declared.kind.Kind.TheVariants as kind
 use Rattle.control_message.specs.declared.message.Opening.{Opening}
 use Rattle.send_window.specs.declared.window.Tick.TheVariants.{Again}
-use Rattle.control_channel.specs.Numbers.{learnt_by, count_acked, next_to_go, answer_to_tick}
-use Rattle.tunnel_fsm.specs.declared.table.TunnelState.{TunnelState}
-use Rattle.tunnel_fsm.specs.declared.table.TunnelState.TheVariants.{WaitCtlReply, WaitCtlConn, Established}
+use Rattle.control_channel.specs.Numbers.{count_acked, next_to_go, answer_to_tick}
 use Rattle.tunnel_fsm.specs.declared.table.TunnelState.TheVariants as state
 use Rattle.tunnel_fsm.specs.declared.table.TunnelEvent.{TunnelEvent}
 use Rattle.tunnel_fsm.specs.declared.table.TunnelEvent.TheVariants as event
 use Rattle.tunnel_fsm.specs.declared.table.TunnelAction.TheVariants as action
 use Rattle.tunnel_fsm.specs.Rows.{rows, row_of, state_number}
 use Rattle.call_fsm.specs.declared.table.CallState.TheVariants as call
-use Rattle.call_fsm.specs.declared.table.CallEvent.{CallEvent}
 use Rattle.call_fsm.specs.declared.table.CallEvent.TheVariants as call_event
-pub use Rattle.step_laws.specs.Arrivals.{Came, CameIn, Says, SaysFaulty, IsAgain, IsStop, IsFor, ComesTo, IsNext, HearsNext, heard_so, InTunnel, IsFaulty, Hears, heard_from, TellsNr}
-pub use Rattle.step_laws.specs.Hides.{Asks, right_answer, Responds, IsRight, LacksSecret}
-use Rattle.step_laws.specs.Hides.{HidesNumber}
 use Rattle.end_model.specs.declared.tunnel.Call.{Call}
 use Rattle.end_model.specs.declared.tunnel.CallPlace.{CallPlace}
 use Rattle.session_looks.specs.declared.look.CellChange.TheVariants as cell
 use Rattle.end_model.specs.declared.tunnel.Control.{Control}
-use Rattle.end_names.specs.declared.role.Role.TheVariants.{Lac, Lns}
 use Rattle.end_model.specs.declared.event.Event.{Event}
-use Rattle.end_model.specs.declared.event.Event.TheVariants.{Datagram, Hang, DropCall, CloseTunnel, Tick}
-use Rattle.end_model.specs.declared.moves.Place.{Place}
+use Rattle.end_model.specs.declared.event.Event.TheVariants.{Datagram, CloseTunnel, Tick}
 use Rattle.end_model.specs.declared.moves.Opened.{Opened}
 use Rattle.end_model.specs.declared.moves.Accepted.{Accepted}
 use Rattle.end_model.specs.declared.moves.Connected.{Connected}
@@ -60,393 +48,97 @@ use Rattle.end_model.specs.declared.moves.Repeated.{Repeated}
 use Rattle.end_model.specs.declared.moves.Negotiated.{Negotiated}
 use Rattle.end_model.specs.declared.moves.Counted.{Counted}
 use Rattle.end_model.specs.declared.moves.FrameSent.{FrameSent}
+use Rattle.end_model.specs.declared.moves.Restored.{Restored}
+use Rattle.end_model.specs.declared.moves.Forgot.{Forgot}
+use Rattle.end_model.specs.declared.moves.Froze.{Froze}
+use Rattle.end_model.specs.declared.moves.ResetAttempting.{ResetAttempting}
+use Rattle.end_model.specs.declared.moves.ResetAnswering.{ResetAnswering}
+use Rattle.std.specs.Prelude.{max, filter}
+use Rattle.recv_window.specs.Window.{class_of, on_wire}
+use Rattle.recv_window.specs.declared.Class.TheVariants.{Next}
+use Rattle.std.specs.List.{flat_map}
+use Rattle.wire_base.specs.declared.cause.Cause.{Cause}
+use Rattle.control_message.specs.declared.message.Recovery.{Recovery}
+use Rattle.control_message.specs.declared.message.Suggested.{Suggested}
+use Rattle.control_channel.specs.Channel.{Channel}
+use Rattle.control_channel.specs.Numbers.{reset_at}
+use Rattle.session_book.specs.declared.record.BookCall.{BookCall}
+use Rattle.session_looks.specs.declared.look.CellChange.{CellChange}
+use Rattle.recovery_tunnel.specs.declared.progress.Progress.TheVariants as progress
+use Rattle.recovery_tunnel.specs.Connections.{ControlConnection, is_waiting, is_lost}
+use Rattle.recovery_tunnel.specs.Attempts.{against, suggested_in}
+use Rattle.recovery_tunnel.specs.Answers.{Answering}
+use Rattle.recovery_tunnel.specs.Secrets.{is_wrong}
+use Rattle.end_names.specs.declared.role.Role.{Role}
+use Rattle.end_model.specs.Tunnels.{Ground, Recovering, ByAttempt, ByAnswer, connection_of, with_connection, is_finished, mode_of, is_current}
+use Rattle.end_model.specs.Recovering.{told_by, told_by_fault, cause_in, is_unfinished, suggested_by, frozen_control, asked_in}
+use Rattle.end_model.specs.Starting.{kept_control, kept_call, kept_looks, can_recover}
+use Rattle.end_model.specs.End.{placed, is_tied}
 use Rattle.end_model.specs.declared.moves.FrameUp.{FrameUp}
 use Rattle.end_model.specs.declared.moves.Move.{Move}
 use Rattle.end_model.specs.declared.moves.Move.TheVariants as move
 use Rattle.end_model.specs.declared.event.Addressee.TheVariants.{Answers}
 use Rattle.end_model.specs.declared.event.Addressee.TheVariants as addressee
-use Rattle.end_model.specs.Reading.{message_in, CallFault, call_fault_in, TunnelFault, tunnel_fault_in, at_zero}
+use Rattle.l2tp_header.specs.Reading.{body_of}
+use Rattle.end_model.specs.Reading.{message_in, TunnelFault, tunnel_fault_in, at_zero}
 use Rattle.session_looks.specs.Frames.{side_of}
-use Rattle.end_model.specs.Calls.{row_for, row_of_none, advanced, with_numbers, number_of, counted, rung, asked_for, is_request, is_reply, is_connection, is_told, is_up, owed_by, is_clean_up}
+use Rattle.end_model.specs.Calls.{row_for, number_of, counted, is_connection, is_up, is_clean_up}
 use Rattle.end_model.specs.Tunnels.{Tunnel, new_tunnel}
-use Rattle.end_model.specs.Channels.{place, next_place, taken_place, peer_window, letter_of, letter_as, counts_given, counts_taken, counts_acked, counts_sent, counts_repeated}
-use Rattle.end_model.specs.Openings.{in_state, fresh}
-use Rattle.end_model.specs.Messages.{flags_of, opening_of, request_of, connection, event_by}
+use Rattle.end_model.specs.Channels.{place, next_place, taken_place, counts_taken, counts_acked, counts_sent, counts_repeated}
+use Rattle.end_model.specs.Messages.{connection, event_by}
 use Rattle.end_model.specs.Asking.{session_named}
 use Rattle.end_model.specs.Reasons.{fault_error}
 use Rattle.end_model.specs.Moments.{is_closed, is_open}
 use Rattle.end_model.specs.Links.{with_link, looks_of}
 use Rattle.step_laws.specs.Failing.{HasFailed}
-pub use Rattle.step_laws.specs.Links.{HearsFrame}
 use Rattle.wire_base.specs.declared.cause.Cause.{Cause}
-use Rattle.step_laws.specs.Links.{Calls, EndsCall, WhySent, Passes}
-use Rattle.call_link.specs.Link.{new_link}
+use Rattle.step_laws.specs.Links.{Calls, WhySent, Passes}
 use Rattle.call_link.specs.Laws.{turn_at}
-use Rattle.end_model.specs.End.{End, new_place, with_look, with_looks}
-
--- ---- how much there may be
-
--- an end has 1,024 tunnels at most, and closed ones count
-abbrev pub has_all_tunnels : End → Bool
-has_all_tunnels e = nat_le 1024 (length e.tunnels)
-
--- a tunnel has 4,096 calls at most
-abbrev pub has_all_calls : List (ℕ × Call) → Bool
-has_all_calls calls = nat_le 4096 (length calls)
-
--- a channel holds 8,192 letters at most, so there is room for one more
-abbrev pub has_room : Control → Bool
-has_room c = nat_lt c.channel.window.queued 8192
-
--- a tunnel takes the next message, and a call that rings, only where the letters that it holds, those that its calls owe and four more are
--- at most so many
-abbrev pub may_take : Control → List (ℕ × Call) → Bool
-may_take c calls = nat_le (c.channel.window.queued + owed_by calls + 4) 8192
-
--- what a move takes is the next letter, of a tunnel that may take one: its place among those that the tunnel took
-pub record Taking (ev : Event) (t : Tunnel) (k : Came) (taken : Place) : Type 0 where
-  pub next : IsNext ev t k
-  pub taken_is : taken ≡ taken_place t.control
-  pub spare : may_take t.control t.calls ≡ true
-
--- ---- what it changes
-
-abbrev pub with_tunnel : End → ℕ → Tunnel → End
-with_tunnel e i t = record e { tunnels = put e.tunnels i t }
-
--- one more letter is given to the tunnel's channel
-abbrev pub with_letter : ℕ → Message → Tunnel → Tunnel
-with_letter session m t = record t { control = counts_given t.control; letters = t.letters ++ letter_of session m ∷ [] }
-
--- one whose pairs hide a value, where they do
-abbrev pub with_letter_as : ℕ → Message → Option (List ℕ) → Tunnel → Tunnel
-with_letter_as session m hidden t = record t { control = counts_given t.control; letters = t.letters ++ letter_as session m hidden ∷ [] }
-
--- of these ids, in this state, made at a moment, with an empty channel and a window of 4 (RFC 2661 section 4.4.3), asking this
-abbrev pub begun : ℕ → ℕ → ℕ → TunnelState → ℕ → Option (List ℕ) → Control
-begun local peer remote state moment challenge = record (fresh peer moment) { local = local; remote = remote; state = state; challenge = challenge }
-
--- the peer's receive window becomes known; one of 0 letters is none
-abbrev pub learns_window : ℕ → Control → Control
-learns_window window c = if window == 0 then c else record c { channel = learnt_by c.channel window }
-
-pub record Opens (e : End) (moment : ℕ) (ev : Event) (m : Opened) (x : End) : Type 0 where
-  pub few : length e.tunnels < 1024
-  pub drawn : takes_id e.tunnel_ids ≡ Ok m.tunnel
-  pub given : m.given ≡ place 0
-  pub wants : WantsTunnel e ev m.peer
-  pub asks : Asks e.config.secret m.challenge
-  pub after : x ≡ record (with_tunnel e m.tunnel (with_letter 0 (Sccrq (opening_of e.role e.config m.challenge None m.tunnel)) (new_tunnel (begun m.tunnel m.peer 0 WaitCtlReply moment m.challenge)))) {
-    tunnel_ids = after_id e.tunnel_ids;
-  }
-
--- no tunnel of this end is the other end of the peer's with this id yet
-abbrev pub IsUnknown : End → ℕ → ℕ → Type 0
-IsUnknown e peer remote = (i : ℕ) (t : Tunnel) → at e.tunnels i ≡ Some t → t.control.peer ≡ peer → t.control.remote ≡ remote → ⊥
-
-pub record Accepts (e : End) (moment : ℕ) (ev : Event) (m : Accepted) (x : End) : Type 0 where
-  pub few : length e.tunnels < 1024
-  pub opening : Opening
-  pub hears : (session : ℕ) × Hears ev m.peer session (Sccrq opening)
-  pub remote : m.remote ≡ opening.tunnel
-  pub window : m.window ≡ opening.window
-  pub alone : IsUnknown e m.peer m.remote
-  pub able : LacksSecret e.config.secret opening.challenge → ⊥
-  pub asks : Asks e.config.secret m.challenge
-  pub responds : Responds 2 e.config.secret opening.challenge m.response
-  pub drawn : takes_id e.tunnel_ids ≡ Ok m.tunnel
-  pub taken : m.taken ≡ place 0
-  pub given : m.given ≡ place 0
-  pub after : x ≡ record (with_tunnel e m.tunnel (with_letter 0 (Sccrp (opening_of e.role e.config m.challenge m.response m.tunnel)) (new_tunnel (counts_taken (learns_window m.window (record (begun m.tunnel m.peer m.remote WaitCtlConn moment m.challenge) { flags = flags_of opening.failover })))))) {
-    tunnel_ids = after_id e.tunnel_ids;
-  }
-
-pub record Connects (e : End) (ev : Event) (m : Connected) (x : End) : Type 0 where
-  pub tunnel : Tunnel
-  pub there : at e.tunnels m.tunnel ≡ Some tunnel
-  pub state : tunnel.control.state ≡ WaitCtlReply
-  pub opening : Opening
-  pub letter : Came
-  pub takes : Taking ev tunnel letter m.taken
-  pub said : message_in letter.body ≡ Ok (Sccrp opening)
-  pub peer : m.peer ≡ tunnel.control.peer
-  pub remote : m.remote ≡ opening.tunnel
-  pub window : m.window ≡ opening.window
-  pub flags : m.flags ≡ flags_of opening.failover
-  -- the peer answered rightly what it was asked, and is answered what it asks
-  pub right : IsRight 2 e.config.secret tunnel.control.challenge opening.response
-  pub able : LacksSecret e.config.secret opening.challenge → ⊥
-  pub responds : Responds 3 e.config.secret opening.challenge m.response
-  pub room : has_room tunnel.control ≡ true
-  pub given : m.given ≡ next_place tunnel.control
-  pub after : x ≡ with_tunnel e m.tunnel (with_letter 0 (Scccn m.response) (record tunnel {
-    control = counts_taken (learns_window m.window (record tunnel.control { remote = m.remote; flags = m.flags; state = Established }));
-  }))
-
-pub record Confirms (e : End) (ev : Event) (m : Confirmed) (x : End) : Type 0 where
-  pub tunnel : Tunnel
-  pub there : at e.tunnels m.tunnel ≡ Some tunnel
-  pub state : tunnel.control.state ≡ WaitCtlConn
-  -- the peer answered rightly what it was asked
-  pub response : Option (List ℕ)
-  pub letter : Came
-  pub takes : Taking ev tunnel letter m.taken
-  pub said : message_in letter.body ≡ Ok (Scccn response)
-  pub right : IsRight 3 e.config.secret tunnel.control.challenge response
-  -- what it told of itself before
-  pub peer : m.peer ≡ tunnel.control.peer
-  pub remote : m.remote ≡ tunnel.control.remote
-  pub window : m.window ≡ peer_window tunnel.control
-  pub flags : m.flags ≡ tunnel.control.flags
-  pub after : x ≡ with_tunnel e m.tunnel (record tunnel { control = counts_taken (in_state Established tunnel.control) })
-
--- a call is born: it has its place, and nothing is seen of it yet
-pub record Adds (e : End) (moment : ℕ) (ev : Event) (m : Added) (x : End) : Type 0 where
-  pub tunnel : Tunnel
-  pub there : at e.tunnels m.tunnel ≡ Some tunnel
-  -- it is open, or its SCCRQ isn't answered yet
-  pub goes : (state_number tunnel.control.state ≡ 3) ⊎ (state_number tunnel.control.state ≡ 1)
-  -- it has fewer than 4,096 calls, and room for the letters that one more owes
-  pub few : has_all_calls tunnel.calls ≡ false
-  pub spare : may_take tunnel.control tunnel.calls ≡ true
-  pub rings : IsRing ev m.subscriber
-  pub wants : WantsTunnel e ev tunnel.control.peer
-  pub drawn : takes_id e.session_ids ≡ Ok m.session
-  pub after : x ≡ record (with_tunnel e m.tunnel (record tunnel { calls = put tunnel.calls m.session (rung e.role m.subscriber moment) })) {
-    session_ids = after_id e.session_ids;
-    calls = put e.calls m.session (new_place m.tunnel);
-  }
-
-pub record Requests (e : End) (moment : ℕ) (m : Requested) (x : End) : Type 0 where
-  pub tunnel : Tunnel
-  pub there : at e.tunnels m.tunnel ≡ Some tunnel
-  pub open_is : state_number tunnel.control.state ≡ 3
-  pub call : Call
-  pub waits : at tunnel.calls m.session ≡ Some call
-  pub row : is_request (row_for e.role call call_event.TunnelOpen).1 ≡ true
-  pub session : m.session < 65536
-  pub subscriber : m.subscriber ≡ call.subscriber
-  pub hides : HidesNumber e.config m.session m.subscriber m.hidden
-  pub room : has_room tunnel.control ≡ true
-  pub given : m.given ≡ next_place tunnel.control
-  pub after : x ≡ record (with_tunnel e m.tunnel (with_letter_as 0 (request_of m.session m.subscriber) m.hidden (record tunnel {
-    calls = put tunnel.calls m.session (advanced e.role call_event.TunnelOpen moment call);
-  }))) { calls = with_look (cell.Bind m.session m.tunnel tunnel.control.peer) e.calls }
-
--- ---- requests for a call
-
--- the id that a request tells is none, or that of a live call of the tunnel
-abbrev pub IsIdInUse : Tunnel → ℕ → Type 0
-IsIdInUse t remote = (remote ≡ 0) ⊎ ((s : ℕ) × (c : Call) × (at t.calls s ≡ Some c) × (c.remote ≡ remote))
-
--- a request in the tunnel is granted this session: the end is an LNS, the id that is told is neither 0 nor that of a live call of the
--- tunnel, which has fewer than 4,096 calls, and the session is the next one that is drawn
-pub record GrantsCall (e : End) (t : Tunnel) (remote session : ℕ) : Type 0 where
-  pub lns : e.role ≡ Lns
-  pub free : IsIdInUse t remote → ⊥
-  pub few : length t.calls < 4096
-  pub drawn : takes_id e.session_ids ≡ Ok session
-
--- what stands against it, the first that counts, and the codes of the CDN that says so (RFC 2661 section 4.4.2): the end is a LAC, which
--- asks for calls itself; the id that is told is 0, or that of a live call of the tunnel; the tunnel has 4,096 calls; no session id is left
-pub data DeniesCall (e : End) (t : Tunnel) (remote result : ℕ) (error : Option ℕ) : Type 0 where
-  AsksItself : e.role ≡ Lac → result ≡ 2 → error ≡ Some 5 → DeniesCall e t remote result error
-  HasUsedId : e.role ≡ Lns → IsIdInUse t remote → result ≡ 2 → error ≡ Some 5 → DeniesCall e t remote result error
-  HasAllCalls : e.role ≡ Lns → (IsIdInUse t remote → ⊥) → 4096 ≤ length t.calls → result ≡ 4 → error ≡ None → DeniesCall e t remote result error
-  HasNoSession : e.role ≡ Lns → (IsIdInUse t remote → ⊥) → length t.calls < 4096 → (x : IdError) → takes_id e.session_ids ≡ Err x
-      → result ≡ 4 → error ≡ None → DeniesCall e t remote result error
-
-pub record Replies (e : End) (moment : ℕ) (ev : Event) (m : Replied) (x : End) : Type 0 where
-  pub tunnel : Tunnel
-  pub there : at e.tunnels m.tunnel ≡ Some tunnel
-  pub open_is : state_number tunnel.control.state ≡ 3
-  pub peer : m.peer ≡ tunnel.control.peer
-  pub serial : ℕ
-  pub calling : Option (List ℕ)
-  pub letter : Came
-  pub takes : Taking ev tunnel letter m.taken
-  pub said : message_in letter.body ≡ Ok (Icrq m.remote serial calling)
-  -- it names no call, and none of the causes stands for which there can be no call
-  pub none : at tunnel.calls letter.header.session ≡ None
-  pub granted : GrantsCall e tunnel m.remote m.session
-  pub row : is_reply (row_of_none e.role call_event.IcrqAcc).1 ≡ true
-  pub few : has_all_calls tunnel.calls ≡ false
-  pub drawn : takes_id e.session_ids ≡ Ok m.session
-  pub room : has_room tunnel.control ≡ true
-  pub given : m.given ≡ next_place tunnel.control
-  pub after : x ≡ record (with_tunnel e m.tunnel (with_letter m.remote (Icrp m.session) (record tunnel {
-    control = counts_taken tunnel.control;
-    calls = put tunnel.calls m.session (asked_for e.role m.remote moment);
-  }))) { session_ids = after_id e.session_ids; calls = put e.calls m.session (new_place m.tunnel) }
-
-pub record ComesUpFirst (e : End) (moment : ℕ) (ev : Event) (m : FirstUp) (x : End) : Type 0 where
-  pub tunnel : Tunnel
-  pub there : at e.tunnels m.tunnel ≡ Some tunnel
-  pub open_is : state_number tunnel.control.state ≡ 3
-  pub call : Call
-  pub asked : at tunnel.calls m.session ≡ Some call
-  pub letter : Came
-  pub takes : Taking ev tunnel letter m.taken
-  pub says : Says letter m.session (Icrp m.remote)
-  pub subscriber : m.subscriber ≡ call.subscriber
-  pub row : is_connection (row_for e.role call call_event.IcrpAcc).1 ≡ true
-  pub room : has_room tunnel.control ≡ true
-  pub given : m.given ≡ next_place tunnel.control
-  pub after : x ≡ record (with_tunnel e m.tunnel (with_letter m.remote connection (record tunnel {
-    control = counts_taken tunnel.control;
-    calls = put tunnel.calls m.session (advanced e.role call_event.IcrpAcc moment (record call { remote = m.remote }));
-  }))) { calls = with_look (cell.Establish m.session) e.calls }
-
-pub record ComesUpSecond (e : End) (moment : ℕ) (ev : Event) (m : SecondUp) (x : End) : Type 0 where
-  pub tunnel : Tunnel
-  pub there : at e.tunnels m.tunnel ≡ Some tunnel
-  pub open_is : state_number tunnel.control.state ≡ 3
-  pub call : Call
-  pub made : at tunnel.calls m.session ≡ Some call
-  pub remote : m.remote ≡ call.remote
-  pub speed : ℕ
-  pub framing : ℕ
-  pub letter : Came
-  pub takes : Taking ev tunnel letter m.taken
-  pub says : Says letter m.session (Iccn speed framing m.sequenced)
-  pub row : is_up (row_for e.role call call_event.IccnAcc).0 ≡ true
-  -- its link begins with some random block; its data messages have numbers where the letter asks for them
-  pub block : List ℕ
-  pub after : x ≡ record (with_tunnel e m.tunnel (record tunnel {
-    control = counts_taken tunnel.control;
-    calls = put tunnel.calls m.session (with_link (new_link (record { moment = moment; block = block })) (with_numbers m.sequenced (advanced e.role call_event.IccnAcc moment call)));
-  })) { calls = with_look (cell.Bind m.session m.tunnel tunnel.control.peer) e.calls }
-
--- the call isn't there any more, and its look is dead
-abbrev pub without_call : End → ℕ → Tunnel → ℕ → End
-without_call e i t s = record (with_tunnel e i (record t { calls = without t.calls s })) { calls = with_look (cell.Kill s) e.calls }
-
--- a call that isn't established entered its state 60 seconds ago or more
-pub record TookTooLong (ev : Event) (moment : ℕ) (c : Call) : Type 0 where
-  pub ticks : ev ≡ Tick
-  pub not_up : c.state ≡ call.Established → ⊥
-  pub over : c.since + 60000 ≤ moment
-
--- the event of a call's table that a faulty message is
-abbrev pub fault_event : Kind → CallEvent
-fault_event kind.Icrq = call_event.IcrqNotAcc
-fault_event kind.Icrp = call_event.IcrpNotAcc
-fault_event kind.Iccn = call_event.IccnNotAcc
-fault_event k = call_event.Close
-
--- why a call ends: the event of its table, and the codes of the CDN that tells it (RFC 2661 section 4.4.2)
-pub data WhyEnds (e : End) (t : Tunnel) (ev : Event) (moment session : ℕ) (c : Call) (on : CallEvent) (result : ℕ) (error : Option ℕ) : Type 0 where
-  IsLate : TookTooLong ev moment c → on ≡ call_event.Close → result ≡ 10 → error ≡ None → WhyEnds e t ev moment session c on result error
-  IsDropped : ev ≡ DropCall session → on ≡ call_event.Close → result ≡ 3 → error ≡ None → WhyEnds e t ev moment session c on result error
-  IsHungUp : ev ≡ Hang session → on ≡ call_event.LineDrop → result ≡ 1 → error ≡ None → WhyEnds e t ev moment session c on result error
-  -- a request named it
-  IsAsked : (remote serial : ℕ) (calling : Option (List ℕ)) → InTunnel ev t.control session (Icrq remote serial calling)
-      → on ≡ call_event.IcrqAcc → result ≡ 2 → error ≡ Some 5 → WhyEnds e t ev moment session c on result error
-  -- its reply, or its connection, came out of state
-  IsReplied : (remote : ℕ) → InTunnel ev t.control session (Icrp remote) → on ≡ call_event.IcrpAcc → result ≡ 2 → error ≡ Some 5
-      → WhyEnds e t ev moment session c on result error
-  IsConnected : (speed framing : ℕ) (sequenced : Bool) → InTunnel ev t.control session (Iccn speed framing sequenced)
-      → on ≡ call_event.IccnAcc → result ≡ 2 → error ≡ Some 5 → WhyEnds e t ev moment session c on result error
-  -- its link ends it
-  IsEnded : (why : Cause) → EndsCall ev moment t.control session c why → on ≡ call_event.Close → result ≡ 3 → error ≡ None
-      → WhyEnds e t ev moment session c on result error
-  -- a message about it has a fault
-  HasFault : (header : ℕ) (f : CallFault) → IsFaulty ev t.control header f → on ≡ fault_event f.kind → result ≡ 2 → error ≡ Some (fault_error f.cause)
-      → WhyEnds e t ev moment session c on result error
-
--- of a call that is neither waiting nor idle the peer is told
-pub record TellsEnd (e : End) (moment : ℕ) (ev : Event) (m : EndTold) (x : End) : Type 0 where
-  pub tunnel : Tunnel
-  pub there : at e.tunnels m.tunnel ≡ Some tunnel
-  pub call : Call
-  pub live : at tunnel.calls m.session ≡ Some call
-  pub on : CallEvent
-  pub why : WhyEnds e tunnel ev moment m.session call on m.result m.error
-  pub row : is_told (row_for e.role call on).1 ≡ true
-  pub session : m.session < 65536
-  pub remote : m.remote ≡ call.remote
-  pub booked : m.booked ≡ is_up call.state
-  pub room : has_room tunnel.control ≡ true
-  pub given : m.given ≡ next_place tunnel.control
-  pub after : x ≡ without_call e m.tunnel (with_letter m.remote (Cdn m.session m.result m.error) tunnel) m.session
-
--- why there is no call, and what the CDN says that tells it: the session id that the letter tells, and the codes
-pub data WhyRefused (e : End) (t : Tunnel) (header : ℕ) (said : Result Message Why) (fault : Option CallFault) (m : Refused) : Type 0 where
-  -- a request that can't be granted
-  IsNotGranted : (remote serial : ℕ) (calling : Option (List ℕ)) → said ≡ Ok (Icrq remote serial calling) → at t.calls header ≡ None
-      → m.remote ≡ remote → DeniesCall e t remote m.result m.error
-      → WhyRefused e t header said fault m
-  -- no end places calls
-  IsOutgoing : (remote : ℕ) → said ≡ Ok (Ocrq remote) → m.remote ≡ remote → m.result ≡ 5 → m.error ≡ None → WhyRefused e t header said fault m
-  -- a reply to an end that asks for none
-  IsReplyToNone : (remote : ℕ) → said ≡ Ok (Icrp remote) → at t.calls header ≡ None → e.role ≡ Lns → m.remote ≡ remote → m.result ≡ 2 → m.error ≡ Some 5
-      → WhyRefused e t header said fault m
-  IsWrong : (f : CallFault) → fault ≡ Some f → m.remote ≡ unwrap_or f.session 0 → m.result ≡ 2 → m.error ≡ Some (fault_error f.cause)
-      → WhyRefused e t header said fault m
-
--- a letter about a call that there isn't is answered by a CDN that names none
-pub record Refuses (e : End) (ev : Event) (m : Refused) (x : End) : Type 0 where
-  pub tunnel : Tunnel
-  pub there : at e.tunnels m.tunnel ≡ Some tunnel
-  pub open_is : state_number tunnel.control.state ≡ 3
-  pub letter : Came
-  pub takes : Taking ev tunnel letter m.taken
-  pub why : WhyRefused e tunnel letter.header.session (message_in letter.body) (call_fault_in letter.body) m
-  pub room : has_room tunnel.control ≡ true
-  pub given : m.given ≡ next_place tunnel.control
-  pub after : x ≡ with_tunnel e m.tunnel (with_letter m.remote (Cdn 0 m.result m.error) (record tunnel { control = counts_taken tunnel.control }))
-
--- the peer's CDN names a live call: by its session id, or, where the header has none, by the one that the peer assigned
-pub record HearsEnd (e : End) (ev : Event) (m : EndHeard) (x : End) : Type 0 where
-  pub tunnel : Tunnel
-  pub there : at e.tunnels m.tunnel ≡ Some tunnel
-  pub open_is : state_number tunnel.control.state ≡ 3
-  pub call : Call
-  pub live : at tunnel.calls m.session ≡ Some call
-  pub remote : ℕ
-  pub code : ℕ
-  pub error : Option ℕ
-  pub letter : Came
-  pub takes : Taking ev tunnel letter m.taken
-  pub said : message_in letter.body ≡ Ok (Cdn remote code error)
-  pub session_is : m.session ≡ session_named tunnel.calls letter.header.session remote
-  pub named : (letter.header.session ≡ m.session) ⊎ ((letter.header.session ≡ 0) × (call.remote ≡ remote))
-  pub row : is_clean_up (row_for e.role call call_event.CdnCame).1 ≡ true
-  pub booked : m.booked ≡ is_up call.state
-  pub after : x ≡ without_call e m.tunnel (record tunnel { control = counts_taken tunnel.control }) m.session
-
-pub record EndsSilently (e : End) (moment : ℕ) (ev : Event) (m : EndSilent) (x : End) : Type 0 where
-  pub tunnel : Tunnel
-  pub there : at e.tunnels m.tunnel ≡ Some tunnel
-  pub call : Call
-  pub live : at tunnel.calls m.session ≡ Some call
-  pub on : CallEvent
-  pub result : ℕ
-  pub error : Option ℕ
-  pub why : WhyEnds e tunnel ev moment m.session call on result error
-  pub row : is_clean_up (row_for e.role call on).1 ≡ true
-  pub booked : m.booked ≡ is_up call.state
-  pub after : x ≡ without_call e m.tunnel tunnel m.session
+use Rattle.end_model.specs.End.{End, with_looks}
+pub use Rattle.step_laws.specs.Arrivals.{Came, CameIn, Says, SaysFaulty, IsAgain, IsStop, IsFor, ComesTo, IsNext, HearsNext, heard_so, InTunnel, IsFaulty, Hears, heard_from, TellsNr}
+pub use Rattle.step_laws.specs.Hides.{Asks, right_answer, Responds, IsRight, LacksSecret}
+pub use Rattle.step_laws.specs.Links.{HearsFrame}
+pub use Rattle.step_laws.specs.Openings.{has_all_tunnels, has_all_calls, has_room, may_take, Taking, with_tunnel, with_letter, with_letter_as, begun, learns_window, Opens, IsUnknown, Accepts, Connects, Confirms}
+pub use Rattle.step_laws.specs.Setups.{Adds, Requests, IsIdInUse, GrantsCall, DeniesCall, AsksItself, HasUsedId, HasAllCalls, HasNoSession, Replies, ComesUpFirst, ComesUpSecond, without_call, TookTooLong, fault_event, WhyEnds, IsLate, IsDropped, IsHungUp, IsAsked, IsReplied, IsConnected, IsEnded, HasFault, TellsEnd, WhyRefused, IsNotGranted, IsOutgoing, IsReplyToNone, IsWrong, Refuses, HearsEnd, EndsSilently}
 
 -- ---- openings that are declined
 
 -- what stands against an SCCRQ that would open a tunnel, the first that counts, and the codes of the StopCCN that says so (RFC 2661 section
--- 4.4.2): its version isn't 1.0; it wants to recover a tunnel; the end has 1,024 tunnels; it asks an end that has no secret; no tunnel id
--- is left
+-- 4.4.2): its version isn't 1.0; the end has 1,024 tunnels; it asks an end that has no secret; no tunnel id is left
 pub data StandsAgainst (e : End) (o : Opening) (result : ℕ) (error : Option ℕ) : Type 0 where
   OtherVersion : (o.version ≡ 256 → ⊥) → result ≡ 5 → error ≡ None → StandsAgainst e o result error
-  Recovers : o.version ≡ 256 → is_some o.recovery ≡ true → result ≡ 2 → error ≡ Some 1 → StandsAgainst e o result error
-  NoTunnel : o.version ≡ 256 → is_some o.recovery ≡ false → 1024 ≤ length e.tunnels → result ≡ 2 → error ≡ Some 4 → StandsAgainst e o result error
-  Challenges : o.version ≡ 256 → is_some o.recovery ≡ false → length e.tunnels < 1024 → LacksSecret e.config.secret o.challenge → result ≡ 4 → error ≡ None
+  NoTunnel : o.version ≡ 256 → 1024 ≤ length e.tunnels → result ≡ 2 → error ≡ Some 4 → StandsAgainst e o result error
+  Challenges : o.version ≡ 256 → length e.tunnels < 1024 → LacksSecret e.config.secret o.challenge → result ≡ 4 → error ≡ None
       → StandsAgainst e o result error
-  NoId : o.version ≡ 256 → is_some o.recovery ≡ false → length e.tunnels < 1024 → (LacksSecret e.config.secret o.challenge → ⊥)
+  NoId : o.version ≡ 256 → length e.tunnels < 1024 → (LacksSecret e.config.secret o.challenge → ⊥)
       → (x : IdError) → takes_id e.tunnel_ids ≡ Err x → result ≡ 2 → error ≡ Some 4 → StandsAgainst e o result error
+
+-- an established tunnel with this id goes to the peer, which gave it that id
+pub record IsNamed (e : End) (peer : ℕ) (r : Recovery) : Type 0 where
+  pub tunnel : Tunnel
+  pub there : at e.tunnels r.receiver ≡ Some tunnel
+  pub open_is : state_number tunnel.control.state ≡ 3
+  pub peer_is : tunnel.control.peer ≡ peer
+  pub remote_is : tunnel.control.remote ≡ r.sender
+
+-- what stands against an SCCRQ that asks for a recovery, the first that counts, and the codes that say so: its version; there is no such
+-- tunnel; it asks an end that has no secret; no tunnel id or no draw number is left
+pub data StandsAgainstRecovery (e : End) (peer : ℕ) (o : Opening) (r : Recovery) (result : ℕ) (error : Option ℕ) : Type 0 where
+  OfOtherVersion : (o.version ≡ 256 → ⊥) → result ≡ 5 → error ≡ None → StandsAgainstRecovery e peer o r result error
+  OfNoTunnel : o.version ≡ 256 → (IsNamed e peer r → ⊥) → result ≡ 2 → error ≡ Some 1 → StandsAgainstRecovery e peer o r result error
+  OfNoSecret : o.version ≡ 256 → IsNamed e peer r → LacksSecret e.config.secret o.challenge → result ≡ 4 → error ≡ None
+      → StandsAgainstRecovery e peer o r result error
+  OfNoId : o.version ≡ 256 → IsNamed e peer r → (LacksSecret e.config.secret o.challenge → ⊥)
+      → (x : IdError) → (takes_id e.tunnel_ids ≡ Err x) ⊎ (takes_id e.recovery_ids ≡ Err x) → result ≡ 2 → error ≡ Some 4
+      → StandsAgainstRecovery e peer o r result error
 
 -- why an opening is declined, by a StopCCN with these codes: something stands against an SCCRQ, or it has a fault, and none of this end's
 -- tunnels is the one that it comes for again; or it is an SCCRP
 pub data WhyDeclined (e : End) (body : List ℕ) (m : Declined) : Type 0 where
-  AnOpening : (o : Opening) → message_in body ≡ Ok (Sccrq o) → m.remote ≡ o.tunnel → IsUnknown e m.peer m.remote
+  AnOpening : (o : Opening) → message_in body ≡ Ok (Sccrq o) → o.recovery ≡ None → m.remote ≡ o.tunnel → IsUnknown e m.peer m.remote
       → StandsAgainst e o m.result m.error → WhyDeclined e body m
+  ARecovery : (o : Opening) → message_in body ≡ Ok (Sccrq o) → (r : Recovery) → o.recovery ≡ Some r → m.remote ≡ o.tunnel
+      → StandsAgainstRecovery e m.peer o r m.result m.error → WhyDeclined e body m
   AFaultyOpening : (g : TunnelFault) → at_zero body ≡ addressee.Opens m.remote → IsUnknown e m.peer m.remote → tunnel_fault_in body ≡ Some g
       → g.event ≡ event.SccrqNotAcc → m.result ≡ 2 → m.error ≡ Some (fault_error g.cause) → WhyDeclined e body m
   AnAnswer : at_zero body ≡ Answers m.remote → m.result ≡ 7 → m.error ≡ None → WhyDeclined e body m
@@ -517,6 +209,7 @@ without_calls e i t calls = record (with_tunnel e i (record t { calls = [] })) {
 pub record Closes (e : End) (moment : ℕ) (ev : Event) (m : Closed) (x : End) : Type 0 where
   pub tunnel : Tunnel
   pub there : at e.tunnels m.tunnel ≡ Some tunnel
+  pub current : is_current (mode_of tunnel.recovery) ≡ true
   pub on : TunnelEvent
   pub why : WhyCloses e.config.secret tunnel ev on m
   pub row : row_of rows tunnel.control.state on ≡ (state.Closed, action.SendStopCcn)
@@ -531,6 +224,7 @@ pub record Closes (e : End) (moment : ℕ) (ev : Event) (m : Closed) (x : End) :
 pub record Rejects (e : End) (moment : ℕ) (ev : Event) (m : Rejected) (x : End) : Type 0 where
   pub tunnel : Tunnel
   pub there : at e.tunnels m.tunnel ≡ Some tunnel
+  pub current : is_current (mode_of tunnel.recovery) ≡ true
   pub waits : state_number tunnel.control.state ≡ 1
   pub on : TunnelEvent
   pub letter : Came
@@ -553,6 +247,7 @@ SaysStop body =
 pub record ClosesBy (e : End) (moment : ℕ) (ev : Event) (m : ClosedBy) (x : End) : Type 0 where
   pub tunnel : Tunnel
   pub there : at e.tunnels m.tunnel ≡ Some tunnel
+  pub current : is_current (mode_of tunnel.recovery) ≡ true
   pub live : is_closed tunnel.control.state ≡ false
   pub letter : Came
   pub takes : Taking ev tunnel letter m.taken
@@ -562,12 +257,43 @@ pub record ClosesBy (e : End) (moment : ℕ) (ev : Event) (m : ClosedBy) (x : En
     control = record (counts_taken tunnel.control) { state = state.Closed; closed = moment };
   }) tunnel.calls
 
+-- a control message for a recovery tunnel, of the peer: it names the id of this end's, or is a StopCCN, or an SCCRQ, that names none and
+-- tells the id of the peer's
+abbrev pub IsForLine : Header → List ℕ → ControlConnection → Type 0
+IsForLine h body c =
+    (h.tunnel ≡ c.local)
+    ⊎ ((h.tunnel ≡ 0) × ((at_zero body ≡ addressee.Recovers c.remote) ⊎ (at_zero body ≡ addressee.Stops c.remote)))
+
+pub record ComesToLine (ev : Event) (peer : ℕ) (c : ControlConnection) (k : Came) : Type 0 where
+  pub came : CameIn ev k
+  pub peer_is : k.peer ≡ peer
+  pub line : IsForLine k.header k.body c
+
+-- the next letter of the other end
+pub record HearsLine (ev : Event) (peer : ℕ) (c : ControlConnection) (k : Came) : Type 0 where
+  pub comes : ComesToLine ev peer c k
+  pub some : length k.body ≡ 0 → ⊥
+  pub next : class_of (unwrap_or k.header.ns 0) c.channel.inbox ≡ Next
+
+-- why a recovery tunnel clears its tunnel: it took a StopCCN, or what it refuses; its channel failed; or 60 seconds passed without a reset
+pub data LineClears (e : End) (moment : ℕ) (ev : Event) (peer : ℕ) (r : Recovering) : Type 0 where
+  ByMessage : (k : Came) (m : Message) → HearsLine ev peer (connection_of r) k → message_in k.body ≡ Ok m
+      → (told_by e.config.secret m r ≡ progress.Cleared) ⊎ ((x : Cause) × (told_by e.config.secret m r ≡ progress.Given x)) → LineClears e moment ev peer r
+  ByFaultOnLine : (k : Came) (x : Cause) → HearsLine ev peer (connection_of r) k → cause_in k.body ≡ Some x
+      → told_by_fault (Some x) r ≡ progress.Given x → LineClears e moment ev peer r
+  ByTime : ev ≡ Tick → is_lost moment (connection_of r) ≡ true → LineClears e moment ev peer r
+
+-- why a tunnel is removed without a word: it failed; an administrator closes one that is frozen or restored; or its recovery tunnel does
+pub data WhyCleared (e : End) (moment : ℕ) (ev : Event) (i : ℕ) (t : Tunnel) : Type 0 where
+  HasFailedItself : ev ≡ Tick → HasFailed moment t.control → WhyCleared e moment ev i t
+  IsClosedNow : ev ≡ CloseTunnel i → is_current (mode_of t.recovery) ≡ false → WhyCleared e moment ev i t
+  ByRecovery : (r : Recovering) → t.recovery ≡ Some r → LineClears e moment ev t.control.peer r → WhyCleared e moment ev i t
+
 -- the tunnel isn't there any more, nor are its calls
 pub record Clears (e : End) (moment : ℕ) (ev : Event) (i : ℕ) (booked : Bool) (x : End) : Type 0 where
   pub tunnel : Tunnel
   pub there : at e.tunnels i ≡ Some tunnel
-  pub ticks : ev ≡ Tick
-  pub failed : HasFailed moment tunnel.control
+  pub why : WhyCleared e moment ev i tunnel
   pub established : booked ≡ is_open tunnel.control.state
   pub after : x ≡ record e { tunnels = without e.tunnels i; calls = with_looks (map cell.Kill (ids_of tunnel.calls)) e.calls }
 
@@ -575,6 +301,7 @@ pub record Clears (e : End) (moment : ℕ) (ev : Event) (i : ℕ) (booked : Bool
 pub record Greets (e : End) (moment : ℕ) (ev : Event) (m : Greeted) (x : End) : Type 0 where
   pub tunnel : Tunnel
   pub there : at e.tunnels m.tunnel ≡ Some tunnel
+  pub current : is_current (mode_of tunnel.recovery) ≡ true
   pub ticks : ev ≡ Tick
   pub open_is : state_number tunnel.control.state ≡ 3
   pub quiet : tunnel.control.channel.window.queued ≡ 0
@@ -611,6 +338,7 @@ IsPlain e t session (Cdn remote code error) = state_number t.control.state ≡ 3
 pub record TakesPlain (e : End) (ev : Event) (m : TookPlain) (x : End) : Type 0 where
   pub tunnel : Tunnel
   pub there : at e.tunnels m.tunnel ≡ Some tunnel
+  pub current : is_current (mode_of tunnel.recovery) ≡ true
   pub letter : Came
   pub next : IsNext ev tunnel letter
   pub why : (m : Message) → message_in letter.body ≡ Ok m → IsPlain e tunnel letter.header.session m
@@ -622,6 +350,7 @@ pub record TakesPlain (e : End) (ev : Event) (m : TookPlain) (x : End) : Type 0 
 pub record Reads (e : End) (moment : ℕ) (ev : Event) (m : NrRead) (x : End) : Type 0 where
   pub tunnel : Tunnel
   pub there : at e.tunnels m.tunnel ≡ Some tunnel
+  pub current : is_current (mode_of tunnel.recovery) ≡ true
   pub tells : TellsNr ev tunnel.control m.nr
   pub after : x ≡ with_tunnel e m.tunnel (record tunnel {
     control = record (counts_acked m.nr moment tunnel.control) { heard = moment };
@@ -632,6 +361,7 @@ pub record Reads (e : End) (moment : ℕ) (ev : Event) (m : NrRead) (x : End) : 
 pub record LetsGo (e : End) (moment : ℕ) (m : LetGo) (x : End) : Type 0 where
   pub tunnel : Tunnel
   pub there : at e.tunnels m.tunnel ≡ Some tunnel
+  pub current : is_current (mode_of tunnel.recovery) ≡ true
   pub number : ℕ
   pub goes : next_to_go tunnel.control.channel ≡ Some number
   pub sent : m.sent ≡ place number
@@ -641,6 +371,7 @@ pub record LetsGo (e : End) (moment : ℕ) (m : LetGo) (x : End) : Type 0 where
 pub record Repeats (e : End) (moment : ℕ) (m : Repeated) (x : End) : Type 0 where
   pub tunnel : Tunnel
   pub there : at e.tunnels m.tunnel ≡ Some tunnel
+  pub current : is_current (mode_of tunnel.recovery) ≡ true
   pub number : ℕ
   pub due : answer_to_tick tunnel.control.channel moment ≡ Again number
   pub sent : m.sent ≡ place number
@@ -650,6 +381,7 @@ pub record Repeats (e : End) (moment : ℕ) (m : Repeated) (x : End) : Type 0 wh
 pub record IsQuiet (e : End) (i : ℕ) (x : End) : Type 0 where
   pub tunnel : Tunnel
   pub there : at e.tunnels i ≡ Some tunnel
+  pub current : is_current (mode_of tunnel.recovery) ≡ true
   pub after : x ≡ e
 
 -- the link of a call is called, and the call keeps it; where frames of the network begin to pass, all frames do
@@ -697,6 +429,195 @@ pub record HandsUp (e : End) (ev : Event) (m : FrameUp) (x : End) : Type 0 where
   pub side : m.side ≡ side_of e.role m.frame
   pub after : x ≡ e
 
+-- ---- recoveries
+
+-- an attempt, and an answer, that hasn't reset its tunnel yet
+pub record IsAttempt (r : Recovering) (local draw : ℕ) : Type 0 where
+  pub connection : ControlConnection
+  pub is : r ≡ ByAttempt connection
+  pub local_is : connection.local ≡ local
+  pub draw_is : connection.draw ≡ draw
+  pub waits : is_waiting connection ≡ true
+
+pub record IsAnswer (r : Recovering) (local remote draw : ℕ) (s : Suggested) : Type 0 where
+  pub answering : Answering
+  pub is : r ≡ ByAnswer answering
+  pub local_is : answering.connection.local ≡ local
+  pub remote_is : answering.connection.remote ≡ remote
+  pub draw_is : answering.connection.draw ≡ draw
+  pub suggested_is : answering.suggested ≡ s
+  pub waits : is_waiting answering.connection ≡ true
+
+-- the calls of a tunnel that comes back, and what is seen of them
+abbrev pub calls_back : Role → Ground → List BookCall → List (ℕ × Call)
+calls_back r g [] = []
+calls_back r g (c ∷ cs) = put (calls_back r g cs) c.local (kept_call r g c)
+
+abbrev pub looks_back : Role → ℕ → ℕ → List BookCall → List CellChange
+looks_back r i peer cs = flat_map (λ (c : BookCall). kept_looks r c.local i peer) cs
+
+-- a tunnel that was kept is there again with its calls
+pub record Restores (e : End) (moment : ℕ) (m : Restored) (x : End) : Type 0 where
+  pub none : at e.tunnels m.tunnel.local ≡ None
+  pub can : can_recover m.tunnel ≡ true
+  pub local : takes_id e.tunnel_ids ≡ Ok m.attempt
+  pub draw : takes_id e.recovery_ids ≡ Ok m.draw
+  pub asks : Asks e.config.secret m.challenge
+  -- the links of its calls begin with some random block
+  pub ground : Ground
+  pub at_moment : ground.moment ≡ moment
+  pub recovery : Recovering
+  pub is : IsAttempt recovery m.attempt m.draw
+  pub after : x ≡ record (with_tunnel e m.tunnel.local (record (new_tunnel (kept_control moment m.tunnel)) {
+    calls = calls_back e.role ground m.calls;
+    recovery = Some recovery;
+  })) {
+    tunnel_ids = after_id e.tunnel_ids;
+    recovery_ids = after_id e.recovery_ids;
+    calls = with_looks (looks_back e.role m.tunnel.local m.tunnel.peer m.calls) (placed m.tunnel.local (map (λ (c : BookCall). c.local) m.calls) e.calls);
+  }
+
+pub record Forgets (e : End) (m : Forgot) (x : End) : Type 0 where
+  pub none : at e.tunnels m.tunnel ≡ None
+  pub after : x ≡ e
+
+-- the calls that aren't established
+abbrev pub unfinished_of : List (ℕ × Call) → List ℕ
+unfinished_of calls = filter (λ s. is_unfinished (at calls s)) (ids_of calls)
+
+abbrev pub finished_of : List (ℕ × Call) → List (ℕ × Call)
+finished_of calls = filter (λ c. is_up c.1.state) calls
+
+-- a peer's attempt at the recovery of an established tunnel is answered; a LAC goes on with its own attempt instead
+pub record Freezes (e : End) (ev : Event) (m : Froze) (x : End) : Type 0 where
+  pub tunnel : Tunnel
+  pub there : at e.tunnels m.tunnel ≡ Some tunnel
+  pub open_is : state_number tunnel.control.state ≡ 3
+  pub untied : is_tied e.role tunnel ≡ false
+  pub letter : Came
+  pub came : CameIn ev letter
+  pub from : letter.peer ≡ m.peer
+  pub none : letter.header.tunnel ≡ 0
+  pub opening : Opening
+  pub said : message_in letter.body ≡ Ok (Sccrq opening)
+  pub version : opening.version ≡ 256
+  -- it names both ends of the tunnel
+  pub named : opening.recovery ≡ Some (record { sender = m.remote; receiver = m.tunnel })
+  pub able : LacksSecret e.config.secret opening.challenge → ⊥
+  pub peer : m.peer ≡ tunnel.control.peer
+  pub remote : m.remote ≡ tunnel.control.remote
+  pub attempt : m.attempt ≡ opening.tunnel
+  pub asked : m.asked ≡ asked_in opening
+  pub not_older : tunnel.control.mark ≤ m.asked
+  pub marked : m.marked ≡ nat_lt tunnel.control.mark m.asked
+  pub suggests : suggested_by tunnel.control ≡ record { ns = m.expect; nr = m.send_from }
+  pub local : takes_id e.tunnel_ids ≡ Ok m.answer
+  pub draw : takes_id e.recovery_ids ≡ Ok m.draw
+  pub recovery : Recovering
+  pub is : IsAnswer recovery m.answer m.attempt m.draw (record { ns = m.expect; nr = m.send_from })
+  pub after : x ≡ record (with_tunnel e m.tunnel (record tunnel {
+    control = frozen_control m.asked tunnel.control;
+    calls = finished_of tunnel.calls;
+    recovery = Some recovery;
+  })) {
+    tunnel_ids = after_id e.tunnel_ids;
+    recovery_ids = after_id e.recovery_ids;
+    calls = with_looks (map cell.Kill (unfinished_of tunnel.calls)) e.calls;
+  }
+
+-- the channel begins anew, without a letter
+abbrev pub begun_anew : ℕ → ℕ → ℕ → Recovering → Tunnel → Tunnel
+begun_anew send_from expect mark r t = record t {
+  control = record t.control { channel = reset_at t.control.channel (on_wire send_from) (on_wire expect); mark = mark };
+  letters = [];
+  recovery = Some r;
+}
+
+pub record ResetsAttempting (e : End) (moment : ℕ) (ev : Event) (m : ResetAttempting) (x : End) : Type 0 where
+  pub tunnel : Tunnel
+  pub there : at e.tunnels m.tunnel ≡ Some tunnel
+  pub peer : m.peer ≡ tunnel.control.peer
+  pub remote : m.remote ≡ tunnel.control.remote
+  pub old : ControlConnection
+  pub attempts : tunnel.recovery ≡ Some (ByAttempt old)
+  pub waits : is_waiting old ≡ true
+  pub local : old.local ≡ m.attempt
+  pub letter : Came
+  pub comes : ComesToLine ev m.peer old letter
+  pub opening : Opening
+  pub said : message_in letter.body ≡ Ok (Sccrp opening)
+  pub right : against e.config.secret old.challenge opening ≡ None
+  pub answer : m.answer ≡ opening.tunnel
+  pub draw : m.draw ≡ asked_in opening
+  pub numbers : suggested_in opening ≡ record { ns = m.send_from; nr = m.expect }
+  pub marked : m.marked ≡ nat_lt tunnel.control.mark m.draw
+  pub new : ControlConnection
+  pub same : (new.local ≡ old.local) × (new.draw ≡ old.draw) × (new.remote ≡ m.answer) × (new.reset ≡ Some moment) × (new.closed ≡ false)
+  pub after : x ≡ with_tunnel e m.tunnel (begun_anew m.send_from m.expect (max tunnel.control.mark m.draw) (ByAttempt new) tunnel)
+
+pub record ResetsAnswering (e : End) (moment : ℕ) (ev : Event) (m : ResetAnswering) (x : End) : Type 0 where
+  pub tunnel : Tunnel
+  pub there : at e.tunnels m.tunnel ≡ Some tunnel
+  pub peer : m.peer ≡ tunnel.control.peer
+  pub remote : m.remote ≡ tunnel.control.remote
+  pub old : Answering
+  pub answers : tunnel.recovery ≡ Some (ByAnswer old)
+  pub waits : is_waiting old.connection ≡ true
+  pub local : old.connection.local ≡ m.answer
+  pub attempt : old.connection.remote ≡ m.attempt
+  pub suggested : old.suggested ≡ record { ns = m.expect; nr = m.send_from }
+  pub letter : Came
+  pub comes : ComesToLine ev m.peer old.connection letter
+  pub response : Option (List ℕ)
+  pub said : message_in letter.body ≡ Ok (Scccn response)
+  pub right : is_wrong 3 e.config.secret old.connection.challenge response ≡ false
+  pub new : Answering
+  pub same : (new.connection.local ≡ m.answer) × (new.connection.remote ≡ m.attempt) × (new.connection.reset ≡ Some moment) × (new.suggested ≡ old.suggested)
+  pub after : x ≡ with_tunnel e m.tunnel (begun_anew m.send_from m.expect tunnel.control.mark (ByAnswer new) tunnel)
+
+-- an SCCRP came to an attempt that waits, and assigns this id
+pub record LearnsOfReply (ev : Event) (peer : ℕ) (r : Recovering) (remote : ℕ) : Type 0 where
+  pub connection : ControlConnection
+  pub is : r ≡ ByAttempt connection
+  pub waits : is_waiting connection ≡ true
+  pub letter : Came
+  pub comes : ComesToLine ev peer connection letter
+  pub opening : Opening
+  pub said : message_in letter.body ≡ Ok (Sccrp opening)
+  pub remote_is : remote ≡ opening.tunnel
+
+-- the channel of its recovery tunnel goes on, or is closed by a StopCCN of its own; of an SCCRP that an attempt refuses it learns the other
+-- end's id
+pub record GoesOn (e : End) (ev : Event) (i : ℕ) (x : End) : Type 0 where
+  pub tunnel : Tunnel
+  pub there : at e.tunnels i ≡ Some tunnel
+  pub old : Recovering
+  pub has : tunnel.recovery ≡ Some old
+  pub channel : Channel
+  pub closed : Bool
+  pub remote : ℕ
+  pub learns : (remote ≡ (connection_of old).remote) ⊎ LearnsOfReply ev tunnel.control.peer old remote
+  pub after : x ≡ with_tunnel e i (record tunnel {
+    recovery = Some (with_connection (record (connection_of old) { channel = channel; closed = closed; remote = remote }) old);
+  })
+
+pub record EndsRecovery (e : End) (i : ℕ) (x : End) : Type 0 where
+  pub tunnel : Tunnel
+  pub there : at e.tunnels i ≡ Some tunnel
+  pub old : Recovering
+  pub has : tunnel.recovery ≡ Some old
+  pub finished : is_finished old ≡ true
+  pub after : x ≡ with_tunnel e i (record tunnel { recovery = None })
+
+-- a message for a tunnel that is frozen or restored is heard, and not looked at
+pub record IgnoresIt (e : End) (moment : ℕ) (ev : Event) (i : ℕ) (x : End) : Type 0 where
+  pub tunnel : Tunnel
+  pub there : at e.tunnels i ≡ Some tunnel
+  pub inactive : is_current (mode_of tunnel.recovery) ≡ false
+  pub letter : Came
+  pub comes : ComesTo ev tunnel.control letter
+  pub after : x ≡ with_tunnel e i (record tunnel { control = record tunnel.control { heard = moment } })
+
 -- ---- a move at a moment, and a chain of moves
 
 abbrev pub Does : End → ℕ → Event → Move → End → Type 0
@@ -728,6 +649,14 @@ Does e moment ev (move.Negotiated m) x = Negotiates e moment ev m x
 Does e moment ev (move.Counted m) x = Counts e m x
 Does e moment ev (move.FrameSent m) x = SendsFrame e moment ev m x
 Does e moment ev (move.FrameUp m) x = HandsUp e ev m x
+Does e moment ev (move.Restored m) x = Restores e moment m x
+Does e moment ev (move.Forgot m) x = Forgets e m x
+Does e moment ev (move.Froze m) x = Freezes e ev m x
+Does e moment ev (move.ResetAttempting m) x = ResetsAttempting e moment ev m x
+Does e moment ev (move.ResetAnswering m) x = ResetsAnswering e moment ev m x
+Does e moment ev (move.RecoveryWentOn i) x = GoesOn e ev i x
+Does e moment ev (move.RecoveryEnded i) x = EndsRecovery e i x
+Does e moment ev (move.Ignored i) x = IgnoresIt e moment ev i x
 
 abbrev pub Chain : ℕ → Event → End → List Move → End → Type 0
 Chain moment ev e [] x = e ≡ x

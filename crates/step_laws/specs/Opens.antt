@@ -1,6 +1,6 @@
 -- What comes for no tunnel and can be read is an SCCRQ where it opens by an id, and an empty body opens none.
 use Rattle.std.proofs.Common.{◌≡◌, ℕ, Bool, true, false, cond, List, [], refl, sym, ap, ◌∙◌, Result, Ok, Err}
-use Rattle.std.specs.Prelude.{◌==◌}
+use Rattle.std.specs.Prelude.{◌==◌, is_some}
 use Rattle.wire_base.specs.declared.why.Why.TheVariants as why
 use Rattle.avp_codec.specs.declared.avp.Avp.{Avp}
 use Rattle.avp_codec.specs.declared.error.AvpError.{AvpError}
@@ -11,17 +11,21 @@ use Rattle.control_message.specs.declared.message.Opening.{Opening}
 use Rattle.control_message.specs.declared.message.Read.{Read}
 use Rattle.control_message.specs.declared.message.Read.TheVariants.{Known, Ignored}
 use Rattle.control_message.specs.declared.message.MessageError.{MessageError}
-use Rattle.control_message.specs.Reading.{message_of, kind_of_pairs, message_by, kind_by}
-use Rattle.end_model.specs.declared.event.Addressee.TheVariants.{Opens, Stops, Nobody}
+use Rattle.control_message.specs.Reading.{message_of, message_by, kind_by}
+use Rattle.end_model.specs.declared.event.Addressee.TheVariants.{Opens, Recovers, Stops, Nobody}
 use Rattle.end_model.specs.Reading.{message_read, pairs_read, message_in, zero_read, zero_pairs, at_zero}
 
--- a message is an SCCRQ that assigns the id
+-- a message is an SCCRQ that assigns the id and asks for no recovery
 abbrev pub Assigns : Message → ℕ → Type 0
-Assigns m remote = (o : Opening) × (m ≡ Sccrq o) × (remote ≡ o.tunnel)
+Assigns m remote = (o : Opening) × (m ≡ Sccrq o) × (remote ≡ o.tunnel) × (is_some o.recovery ≡ false)
 
 known_opens : (avps : List Avp) (m : Message) (remote : ℕ) → zero_read avps (Ok (Known m)) ≡ Opens remote → Assigns m remote
 unfolding zero_read
-known_opens avps (Sccrq o) remote h = (o, refl, let same : o.tunnel ≡ remote = cc in sym same)
+known_opens avps (Sccrq o) remote h = by (is_some o.recovery) refl h
+  where
+    by : (b : Bool) → is_some o.recovery ≡ b → cond b (Recovers o.tunnel) (Opens o.tunnel) ≡ Opens remote → Assigns (Sccrq o) remote
+    by true asks is = absurd cc
+    by false none is = (o, refl, (let same : o.tunnel ≡ remote = cc in sym same), none)
 known_opens avps (StopCcn tunnel code error) remote h = by (tunnel == 0) h
   where
     by : (b : Bool) → cond b (Nobody why.Tunnel) (Stops tunnel) ≡ Opens remote → Assigns (StopCcn tunnel code error) remote

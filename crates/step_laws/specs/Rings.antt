@@ -11,12 +11,13 @@ use Rattle.end_model.specs.End.{End, Stepped, plain_step}
 use Rattle.step_laws.specs.Answers.{causes_of}
 use Rattle.step_laws.specs.Steps.{AreKept}
 
--- there may be no more tunnels, or no more calls in the tunnel; the tunnel has no room for letters; or no id is left
+-- there may be no more tunnels, or no more calls in the tunnel; the tunnel has no room for letters; no id is left; or a tunnel is recovered
 pub data IsRingCause : CauseOf → Type 0 where
   ForTunnels : IsRingCause cause.Tunnels
   ForCalls : IsRingCause cause.Calls
   ForRoom : IsRingCause cause.Queue
   ForIds : IsRingCause cause.Ids
+  ForRecovery : IsRingCause cause.Recovering
 
 -- a call of the session that is drawn lives after the step, and no cause is told; or one cause is told, and the calls are those that were
 pub data RingComes (e : End) (s : Stepped) : Type 0 where

@@ -1,14 +1,13 @@
 -- Where a step tells that there is no room for letters.
 use Rattle.step_laws.specs.Callers.{IsRing}
-use Rattle.std.specs.Prelude.{◌≡◌, ◌⊎◌, ◌≤◌, ℕ, false, List, Some, unwrap_or}
+use Rattle.std.specs.Prelude.{◌≡◌, ◌⊎◌, ◌≤◌, ℕ, true, false, List, Some, unwrap_or}
 use Rattle.id_table.specs.Ids.{at}
 use Rattle.tunnel_fsm.specs.declared.table.TunnelState.{TunnelState}
 use Rattle.tunnel_fsm.specs.declared.table.TunnelState.TheVariants.{WaitCtlReply, Established}
 use Rattle.wire_base.specs.declared.why.Why.TheVariants as why
 use Rattle.end_model.specs.declared.event.Event.{Event}
-use Rattle.end_model.specs.declared.event.Event.TheVariants.{Ring}
 use Rattle.end_model.specs.declared.out.Out.TheVariants.{Drop}
-use Rattle.end_model.specs.Tunnels.{Tunnel}
+use Rattle.end_model.specs.Tunnels.{Tunnel, mode_of, is_current}
 use Rattle.end_model.specs.Channels.{counts_acked}
 use Rattle.end_model.specs.End.{End, plain_step}
 use Rattle.step_laws.specs.Letters.{Among}
@@ -25,27 +24,37 @@ pub record IsFull (e : End) (moment : ℕ) (ev : Event) : Type 0 where
   pub next : IsNext ev tunnel letter
   pub nr : ℕ
   pub tells : TellsNr ev tunnel.control nr
+  pub current : is_current (mode_of tunnel.recovery) ≡ true
   pub full : may_take (counts_acked nr moment tunnel.control) tunnel.calls ≡ false
 
--- a tunnel to the LNS is in this state, and none with a lesser id is
+-- a tunnel to the LNS is in this state, and its channel carries messages; and none with a lesser id is one
 pub record IsLeast (e : End) (s : TunnelState) (i : ℕ) : Type 0 where
   pub tunnel : Tunnel
   pub there : at e.tunnels i ≡ Some tunnel
   pub peer : tunnel.control.peer ≡ e.config.lns
   pub state : tunnel.control.state ≡ s
-  pub least : (j : ℕ) (t : Tunnel) → at e.tunnels j ≡ Some t → t.control.peer ≡ e.config.lns → t.control.state ≡ s → i ≤ j
+  pub current : is_current (mode_of tunnel.recovery) ≡ true
+  pub least : (j : ℕ) (t : Tunnel) → at e.tunnels j ≡ Some t → is_current (mode_of t.recovery) ≡ true → t.control.peer ≡ e.config.lns → t.control.state ≡ s → i ≤ j
 
--- no tunnel to the LNS is in this state
+-- no tunnel to the LNS is in this state, whose channel carries messages
 abbrev pub HasNone : End → TunnelState → Type 0
-HasNone e s = (j : ℕ) (t : Tunnel) → at e.tunnels j ≡ Some t → t.control.peer ≡ e.config.lns → t.control.state ≡ s → ⊥
+HasNone e s = (j : ℕ) (t : Tunnel) → at e.tunnels j ≡ Some t → is_current (mode_of t.recovery) ≡ true → t.control.peer ≡ e.config.lns → t.control.state ≡ s → ⊥
 
 -- a ring goes over the least tunnel to the LNS that is open, else over the least whose SCCRQ isn't answered yet
 abbrev pub IsChosen : End → ℕ → Type 0
 IsChosen e i = IsLeast e Established i ⊎ (HasNone e Established × IsLeast e WaitCtlReply i)
 
--- else over a new one
+-- a tunnel to the LNS is frozen or restored
+abbrev pub IsRecovering : End → Type 0
+IsRecovering e = (j : ℕ) × (t : Tunnel) × (at e.tunnels j ≡ Some t) × (t.control.peer ≡ e.config.lns) × (is_current (mode_of t.recovery) ≡ false)
+
+-- else over a new one, where there is none that is recovered
 abbrev pub RingsNew : End → Event → Type 0
-RingsNew e ev = (who : List ℕ) × (IsRing ev who) × HasNone e Established × HasNone e WaitCtlReply
+RingsNew e ev = (who : List ℕ) × (IsRing ev who) × HasNone e Established × HasNone e WaitCtlReply × (IsRecovering e → ⊥)
+
+-- and it is refused where there is one
+abbrev pub RingsInRecovery : End → Event → Type 0
+RingsInRecovery e ev = (who : List ℕ) × (IsRing ev who) × HasNone e Established × HasNone e WaitCtlReply × IsRecovering e
 
 -- the tunnel over which a call is to go that rings
 pub record RingsOver (e : End) (ev : Event) (t : Tunnel) : Type 0 where

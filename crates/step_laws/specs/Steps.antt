@@ -12,7 +12,7 @@ use Rattle.end_model.specs.declared.out.Origin.{Origin}
 use Rattle.end_model.specs.declared.moves.Move.{Move}
 use Rattle.end_model.specs.declared.moves.Move.TheVariants as move
 use Rattle.end_model.specs.Calls.{owed_by}
-use Rattle.end_model.specs.Tunnels.{Tunnel}
+use Rattle.end_model.specs.Tunnels.{Tunnel, Recovering, connection_of, mode_of, is_current}
 use Rattle.end_model.specs.Moments.{is_closed}
 use Rattle.end_model.specs.End.{End, Stepped, decline_origin, plain_step}
 use Rattle.end_model.specs.declared.moves.Declined.{Declined}
@@ -20,7 +20,7 @@ use Rattle.l2tp_header.specs.Spelling.{control_bytes}
 use Rattle.avp_codec.specs.Spelling.{spelling}
 use Rattle.control_message.specs.declared.message.Message.TheVariants.{StopCcn}
 use Rattle.control_message.specs.Pairs.{pairs_of}
-use Rattle.step_laws.specs.Letters.{Among, Carries, HasOutput}
+use Rattle.step_laws.specs.Letters.{Among, IsRecoveryLetter, Carries, HasOutput}
 use Rattle.step_laws.specs.Moves.{Chain}
 
 -- a tunnel of an end stands under its own id, isn't idle, its calls ascend, at most 4,096 of them, and it keeps as many letters
@@ -40,6 +40,10 @@ pub record IsKept (i : ℕ) (t : Tunnel) : Type 0 where
   pub shut : is_closed t.control.state ≡ true → t.calls ≡ []
   pub owed : state_number t.control.state ≡ 3 → owed_by t.calls ≤ 8190
   pub acked : t.control.channel.window.acked < 2 ^ 64
+  -- the channel of one that is frozen or restored gives nothing
+  pub frozen : is_current (mode_of t.recovery) ≡ false → t.control.channel.frozen ≡ true
+  -- what its recovery tunnel holds is of a recovery
+  pub recovering : (r : Recovering) → t.recovery ≡ Some r → AllByRecursion (IsRecoveryLetter i r) (connection_of r).channel.outbox.letters
 
 -- so are all tunnels of an end, and its tables ascend
 pub record AreKept (e : End) : Type 0 where
@@ -101,3 +105,12 @@ pub record IsChain (e : End) (moment : ℕ) (ev : Event) (s : Stepped) : Type 0 
 -- each step of an end whose tunnels are kept
 abbrev pub StepsAreChains : Type 0
 StepsAreChains = (e : End) → AreKept e → (moment : ℕ) (block : List ℕ) (ev : Event) → IsChain e moment ev (plain_step e moment block ev)
+
+-- no move of a step is one of a start
+abbrev pub IsOfNoStart : Move → Type 0
+IsOfNoStart (move.Restored m) = ⊥
+IsOfNoStart (move.Forgot m) = ⊥
+IsOfNoStart m = Unit {0}
+
+abbrev pub StepsAreNoStarts : Type 0
+StepsAreNoStarts = (e : End) (moment : ℕ) (block : List ℕ) (ev : Event) → AllByRecursion IsOfNoStart (plain_step e moment block ev).moves

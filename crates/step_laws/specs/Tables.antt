@@ -26,7 +26,7 @@ use Rattle.end_model.specs.declared.moves.Move.{Move}
 use Rattle.end_model.specs.declared.moves.Move.TheVariants as move
 use Rattle.end_model.specs.Reading.{message_in, CallFault, call_fault_in, TunnelFault, tunnel_fault_in}
 use Rattle.end_model.specs.Calls.{row_for, is_told, is_clean_up}
-use Rattle.end_model.specs.Tunnels.{Tunnel}
+use Rattle.end_model.specs.Tunnels.{Tunnel, mode_of, is_current}
 use Rattle.end_model.specs.Channels.{counts_acked}
 use Rattle.end_model.specs.Reasons.{fault_error}
 use Rattle.end_model.specs.Moments.{is_closed}
@@ -122,6 +122,7 @@ pub record BringsNext (e : End) (ev : Event) : Type 0 where
   pub tunnel : Tunnel
   pub there : at e.tunnels id ≡ Some tunnel
   pub live : is_closed tunnel.control.state ≡ false
+  pub current : is_current (mode_of tunnel.recovery) ≡ true
   pub letter : Came
   pub next : IsNext ev tunnel letter
   pub named : letter.header.tunnel ≡ id

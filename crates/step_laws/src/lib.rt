@@ -10,17 +10,47 @@ ghost use Rattle.step_laws.specs.Looks.{LooksBeginTrue, LooksStayTrue};
 ghost use Rattle.step_laws.specs.Rings.{RingsCome};
 ghost use Rattle.step_laws.specs.Room.{StepsRefuseTruly, FullAreRefused};
 ghost use Rattle.step_laws.specs.Sent.{FramesAreOfSteps};
-ghost use Rattle.step_laws.specs.Steps.{StepsAreChains};
+ghost use Rattle.step_laws.specs.Starts.{StartsAreAllowed, StartsAreChains, StartsLookTrue, StartsTellForgotten};
+ghost use Rattle.step_laws.specs.Steps.{StepsAreChains, StepsAreNoStarts};
 ghost use Rattle.step_laws.specs.Tables.{TablesAreDone};
 ghost use Rattle.step_laws.specs.Ups.{BirthsAreFew, ReadsAreFew, UpsAreFew, UpsAreMoves};
 
 /// Each step of an end whose tunnels are kept is a chain of its moves: each move has what it needs in the end that the moves
 /// before it lead to, and the last one leads to the end that is left, whose tunnels are kept. What is sent goes to the peer of
 /// a tunnel, and is of that tunnel as it stands at one end of the chain, which may be before other moves change or remove it: a
-/// letter that it keeps, under its number; an acknowledgement alone; or a frame that one of the moves up to there sends. Or it is
-/// the StopCCN of no tunnel by which a move declines an opening. What is handed up is what one of the moves hands up.
+/// letter that it keeps, under its number; an acknowledgement alone; a frame that one of the moves up to there sends; or, with the ids
+/// of its recovery tunnel, a letter which that holds, or an acknowledgement alone. Or it is the StopCCN of no tunnel by which a move
+/// declines an opening. What is handed up is what one of the moves hands up.
 pub fn steps_are_chains()
     ensures { StepsAreChains }
+{}
+
+/// A start over a whole book is such a chain too, whatever event comes then: from an end without tunnels, each tunnel that was kept comes back
+/// with its calls and an attempt at its recovery, and the links of its calls are opened; or it is forgotten. The tunnels that are there
+/// then are kept.
+pub fn starts_are_chains()
+    ensures { StartsAreChains }
+{}
+
+/// After a start over such a book, what the data plane sees of each session is so of its call.
+pub fn starts_look_true()
+    ensures { StartsLookTrue }
+{}
+
+/// And no more than 1,024 tunnels are there, each call is in a state that a call of the end's role can be in, under a session of 16
+/// bits, and none waits for its tunnel.
+pub fn starts_are_allowed()
+    ensures { StartsAreAllowed }
+{}
+
+/// What it tells as gone are calls of the book, none twice, and none of them has its place then.
+pub fn starts_tell_forgotten()
+    ensures { StartsTellForgotten }
+{}
+
+/// No move of a step brings a tunnel back or forgets one.
+pub fn steps_are_no_starts()
+    ensures { StepsAreNoStarts }
 {}
 
 /// Each frame that a step sends down a call is given by its event; or the call's LCP end gives it, as the call is before the step, at the

@@ -8,7 +8,7 @@ use Rattle.step_ledger.specs.Committing.{IsUnmarked}
 use Rattle.end_model.specs.declared.moves.Move.{Move}
 use Rattle.end_model.specs.declared.moves.Move.TheVariants as move
 use Rattle.end_model.specs.Tunnels.{Drawing}
-use Rattle.end_model.specs.Contents.{ceilings_of, tunnel_down, call_down, records_of}
+use Rattle.end_model.specs.Contents.{ceilings_of, tunnel_down, call_down, mark_by, records_of}
 use Rattle.step_records.specs.Leaving.{leaves}
 
 abbrev AreUnmarked : List Record → Type 0
@@ -30,6 +30,10 @@ of_call : (booked : Bool) (s : ℕ) → AreUnmarked (call_down booked s)
 of_call true s = (tt, tt)
 of_call false s = tt
 
+of_mark : (marked : Bool) (i mark : ℕ) → AreUnmarked (mark_by marked i mark)
+of_mark true i mark = (tt, tt)
+of_mark false i mark = tt
+
 of_move : (m : Move) → AreUnmarked (records_of m)
 unfolding records_of
 of_move (move.Connected m) = (refl, tt)
@@ -42,6 +46,9 @@ of_move (move.EndSilent m) = of_call m.booked m.session
 of_move (move.Closed m) = of_tunnel m.booked m.tunnel
 of_move (move.ClosedBy m) = of_tunnel m.booked m.tunnel
 of_move (move.Cleared i booked) = of_tunnel booked i
+of_move (move.Forgot m) = of_tunnel true m.tunnel
+of_move (move.Froze m) = of_mark m.marked m.tunnel m.asked
+of_move (move.ResetAttempting m) = of_mark m.marked m.tunnel m.draw
 of_move m = tt
 
 of_moves : (ms : List Move) → AreUnmarked (flat_map (λ m. records_of m) ms)

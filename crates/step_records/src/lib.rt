@@ -1,5 +1,5 @@
-//! What a step of an end leaves in the checkpoint of its end: the ceilings of ids that rose, and the tunnels and the calls that came
-//! up or went.
+//! What a step of an end leaves in the checkpoint of its end: the ceilings of ids that rose, the tunnels and the calls that came up or
+//! went, and the marks of tunnels that rose.
 #![tactic(auto)]
 
 mod committing;

@@ -3,7 +3,7 @@
 ghost use Rattle.std.specs.Prelude.{◌≡◌, ◌+◌, ◌*◌, ◌-◌, ◌/◌, ◌++◌, false, min, replicate, OnOk, IfOk, option_to_list};
 ghost use Rattle.std.specs.List.{flat_map};
 ghost use Rattle.session_book.specs.declared.record.Record.TheVariants as records;
-ghost use Rattle.end_model.specs.Contents.{ceilings_of, tunnel_down, call_down, records_of};
+ghost use Rattle.end_model.specs.Contents.{ceilings_of, tunnel_down, call_down, mark_by, records_of};
 ghost use Rattle.step_records.specs.Leaving.{leaves};
 
 use crate::spaces::Spaces;
@@ -92,6 +92,9 @@ fn left_by(step: &Move) -> Result<Option<Record>, NoMemory>
         Move::Closed(end) => Ok(tunnel_down(end.booked, end.tunnel)),
         Move::ClosedBy(end) => Ok(tunnel_down(end.booked, end.tunnel)),
         Move::Cleared { tunnel, booked } => Ok(tunnel_down(*booked, *tunnel)),
+        Move::Forgot(gone) => Ok(tunnel_down(true, gone.tunnel)),
+        Move::Froze(frozen) => Ok(mark_by(frozen.marked, frozen.tunnel, frozen.asked)),
+        Move::ResetAttempting(reset) => Ok(mark_by(reset.marked, reset.tunnel, reset.draw)),
         _ => Ok(None),
     }
 }
@@ -166,4 +169,14 @@ fn tunnel_down(booked: bool, local: u16) -> Option<Record>
         return None;
     }
     Some(Record::TunnelDown { local })
+}
+
+// A tunnel's mark rises to a number that its peer drew for a recovery, where this says so.
+fn mark_by(marked: bool, tunnel: u16, mark: u32) -> Option<Record>
+    ensures { option_to_list result ≡ mark_by marked tunnel mark }
+{
+    if !marked {
+        return None;
+    }
+    Some(Record::Mark { tunnel, mark })
 }

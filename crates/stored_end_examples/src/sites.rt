@@ -66,7 +66,7 @@ impl<D: Disk + Drop> LacSite<D> {
     }
 
     pub fn start(&mut self) -> Result<Given, StoreStop> {
-        self.lac.start(&mut *self.disk, [0; 16])
+        self.lac.start(&mut *self.disk, MOMENT, BLOCK, [0; 16])
     }
 
     pub fn starts(&mut self) -> bool {
@@ -125,7 +125,7 @@ impl LnsSite {
     }
 
     pub fn starts(&mut self) -> bool {
-        self.lns.start(&mut *self.disk).is_ok()
+        self.lns.start(&mut *self.disk, MOMENT, BLOCK).is_ok()
     }
 
     pub fn step(&mut self, event: &Event) -> Result<Given, StoreStop> {

@@ -1,7 +1,7 @@
 use crate::pair::{Pair, new_pair, stopping_pair};
 use crate::sites::LacSite;
 use disk_core::{MemoryDisk, StopDisk};
-use end_model::{Event, Out};
+use end_model::{Event, Out, address_of};
 use end_store::{Store, StoreStop};
 use std::alloc::Global;
 use std::test::Fail;
@@ -27,18 +27,28 @@ O\x01\x02\0\0\0\x40\0\0\0\0\0\0\0\0\0\0\0\0\0\0\0\0\0\0\0\0\0\0\0\0\0\
 O\x04\0\x01\0\x01\0\x01\0\0\0\0\0\0\0\0\0\0\0\0\0\0\0\0\0\0\0\0\0\0\0\0\
 C";
 
-/// The journal of the LAC that started again, worked out from the format: that of before, and behind it that its tunnel 1 went.
-const GONE_FILE: &[u8; 193] = b"OL2TPCKP1\x01\x01\0\0\0\0\0\0\0\0\0\0\0\0\0\0\0\0\0\0\0\0C\
+/// The journal of the LAC that started again, worked out from the format: that of before, and behind it the ceilings of its tunnel ids,
+/// which is 128 from the id 65 of its recovery tunnel on, and of its draw numbers, which is 64 from the first one on.
+const STARTED_FILE: &[u8; 225] = b"OL2TPCKP1\x01\x01\0\0\0\0\0\0\0\0\0\0\0\0\0\0\0\0\0\0\0\0C\
 O\x01\x01\0\0\0\x40\0\0\0\0\0\0\0\0\0\0\0\0\0\0\0\0\0\0\0\0\0\0\0\0\0\
 O\x01\x02\0\0\0\x40\0\0\0\0\0\0\0\0\0\0\0\0\0\0\0\0\0\0\0\0\0\0\0\0\0\
 O\x02\0\x01\0\x01\x0a\0\0\x02\0\x08\0\x03\0\0\0\0\0\0\0\0\0\0\0\0\0\0\0\0\0\0\
 O\x04\0\x01\0\x01\0\x01\xff\xff\0\0\0\x01\0\0\0\0\0\0\0\0\0\0\0\0\0\0\0\0\0\0\
-O\x03\0\x01\0\0\0\0\0\0\0\0\0\0\0\0\0\0\0\0\0\0\0\0\0\0\0\0\0\0\0\0\
+O\x01\x01\0\0\0\x80\0\0\0\0\0\0\0\0\0\0\0\0\0\0\0\0\0\0\0\0\0\0\0\0\0\
+O\x01\x03\0\0\0\x40\0\0\0\0\0\0\0\0\0\0\0\0\0\0\0\0\0\0\0\0\0\0\0\0\0\
 C";
 
-/// What stands behind it after the next ring: the ceilings of its tunnel and session ids, which are 128 from the id 65 on.
+/// The SCCRQ of the LAC that started again, worked out from the messages: its recovery tunnel has the id 65, it asks for the tunnel that
+/// is 1 at both ends, and its draw number is 1.
+const ATTEMPT: &[u8; 102] = b"\xc8\x02\0\x66\0\0\0\0\0\0\0\0\
+\x80\x08\0\0\0\0\0\x01\x80\x08\0\0\0\x02\x01\0\x80\x0a\0\0\0\x03\0\0\0\x03\x80\x0a\0\0\0\x07lac1\
+\x80\x08\0\0\0\x09\0\x41\x80\x08\0\0\0\x0a\0\x08\0\x0c\0\0\0\x4c\0\x03\0\0\x75\x30\
+\x80\x10\0\0\0\x4d\0\0\0\0\0\x01\0\0\0\x01\0\x0a\xff\xff\0\x01\0\0\0\x01";
+
+/// What stands behind it after the close of its tunnel and the next ring: that the tunnel 1 went, and the ceiling of its session ids,
+/// which is 128 from the id 65 on. Its tunnel ids are below their ceiling.
 const RUNG_AGAIN: &[u8; 65] = b"\
-O\x01\x01\0\0\0\x80\0\0\0\0\0\0\0\0\0\0\0\0\0\0\0\0\0\0\0\0\0\0\0\0\0\
+O\x03\0\x01\0\0\0\0\0\0\0\0\0\0\0\0\0\0\0\0\0\0\0\0\0\0\0\0\0\0\0\0\
 O\x01\x02\0\0\0\x80\0\0\0\0\0\0\0\0\0\0\0\0\0\0\0\0\0\0\0\0\0\0\0\0\0\
 C";
 
@@ -127,17 +137,25 @@ fn opened_again(alloc: Global) -> Option<LacSite<MemoryDisk>> {
     LacSite::open(alloc, disk)
 }
 
-/// Whether the start of a LAC tells that its call is gone, and nothing else.
-fn tells_gone(lac: &mut LacSite<MemoryDisk>) -> Option<bool> {
-    let given = lac.start().ok()?;
-    Some(matches!(given.outputs.as_slice(), [Out::Gone { session: 1 }]))
+/// Whether outputs are one datagram to the node 2, with these bytes.
+fn are_sent(outputs: &[Out], wanted: &[u8]) -> bool {
+    match outputs {
+        [Out::Send { peer, bytes, .. }] => *peer == address_of(2) && bytes.as_slice() == wanted,
+        _ => false,
+    }
 }
 
-/// The same LAC, and whether its start tells that its call is gone, and nothing else.
+/// Whether the start of a LAC asks for the recovery of its tunnel, and gives nothing else.
+fn asks(lac: &mut LacSite<MemoryDisk>) -> Option<bool> {
+    let given = lac.start().ok()?;
+    Some(are_sent(given.outputs.as_slice(), ATTEMPT))
+}
+
+/// The same LAC, and whether its start asks for the recovery of its tunnel, and gives nothing else.
 fn started_again(alloc: Global) -> Option<(bool, LacSite<MemoryDisk>)> {
     let mut lac = opened_again(alloc)?;
-    let gone = tells_gone(&mut lac)?;
-    Some((gone, lac))
+    let asked = asks(&mut lac)?;
+    Some((asked, lac))
 }
 
 /// The LAC has these tunnels, and its disk has this file.
@@ -150,12 +168,51 @@ fn has_file(
     lac.tunnels(alloc) == Ok(tunnels) && lac.disk.bytes() == file
 }
 
-/// A LAC that starts again tells that its call is gone, has no tunnel, and its disk has this file.
-fn lets_go(alloc: Global, file: &[u8]) -> bool {
+/// A LAC that starts again asks for the recovery of its tunnel, has that tunnel, and its disk has this file.
+fn recovers(alloc: Global, file: &[u8]) -> bool {
     match started_again(alloc) {
         None => false,
-        Some((gone, lac)) => gone && has_file(alloc, &lac, (0, 0, 0), file),
+        Some((asked, lac)) => asked && has_file(alloc, &lac, (1, 1, 1), file),
     }
+}
+
+/// The start of the LAC, whose disk stops at this call, isn't made: it has no tunnel, and halts.
+fn start_stops(lac: &mut LacSite<StopDisk>, alloc: Global) -> bool {
+    lac.start().err() == Some(StoreStop::StoreFault)
+        && lac.tunnels(alloc) == Ok((0, 0, 0))
+        && lac.stop_of(&Event::Tick) == Some(StoreStop::Halted)
+}
+
+/// The LAC whose start stops at this call of its disk.
+fn unstarted(alloc: Global, call: u64) -> Option<LacSite<StopDisk>> {
+    let mut lac = opened_again(alloc)?.stopping(alloc, call.saturating_sub(1))?;
+    if start_stops(&mut lac, alloc) {
+        Some(lac)
+    } else {
+        None
+    }
+}
+
+/// With how many records the disk of the LAC opens that begins with so many of this file.
+fn begun(alloc: Global, disk: &mut MemoryDisk, file: &[u8; 225]) -> Option<u32> {
+    let records = match Store::open(alloc, disk, 1, 1) {
+        Ok(store) => store.records(),
+        Err(_) => return None,
+    };
+    let end = 32 + 32 * records.min(6) as usize;
+    if disk.bytes().starts_with(&file[..end]) {
+        Some(records)
+    } else {
+        None
+    }
+}
+
+/// The start of the LAC stops at this call of its disk, which crashes: with how many records of this file it opens then.
+fn start_leaves(alloc: Global, call: u64, kept: bool, file: &[u8; 225]) -> Option<u32> {
+    let lac = unstarted(alloc, call)?;
+    let mut disk = Box::into_inner(lac.into_disk()).into_disk();
+    disk.after_crash(kept);
+    begun(alloc, &mut disk, file)
 }
 
 /// The store has these ceilings of tunnel and session ids, so many records, and no tunnel.
@@ -176,9 +233,26 @@ fn has_ceilings(alloc: Global, disk: &mut MemoryDisk, ceiling: u32, records: u32
     }
 }
 
-/// A LAC that started again, whose first port rings.
-fn rung_again(alloc: Global) -> Option<LacSite<MemoryDisk>> {
+/// A ring at a LAC whose only tunnel isn't recovered leaves its tunnel and its disk as they were.
+fn is_unrung(alloc: Global, file: &[u8]) -> bool {
+    let Some((_, mut lac)) = started_again(alloc) else {
+        return false;
+    };
+    lac.stop_of(&Event::Ring { port: 1 }).is_none() && has_file(alloc, &lac, (1, 1, 1), file)
+}
+
+/// A LAC that started again, whose tunnel is closed.
+fn closed_again(alloc: Global) -> Option<LacSite<MemoryDisk>> {
     let (_, mut lac) = started_again(alloc)?;
+    match lac.stop_of(&Event::CloseTunnel { tunnel: 1 }) {
+        None => Some(lac),
+        Some(_) => None,
+    }
+}
+
+/// The same LAC, whose first port rings.
+fn rung_again(alloc: Global) -> Option<LacSite<MemoryDisk>> {
+    let mut lac = closed_again(alloc)?;
     match lac.stop_of(&Event::Ring { port: 1 }) {
         None => Some(lac),
         Some(_) => None,
@@ -190,27 +264,27 @@ fn has_rung(
     alloc: Global,
     lac: &LacSite<MemoryDisk>,
     tunnel: u16,
-    file: &[u8; 193],
+    file: &[u8; 225],
     behind: &[u8],
 ) -> bool {
     lac.tunnels(alloc) == Ok((1, tunnel, 0))
-        && lac.disk.bytes().strip_prefix(&file[..192]) == Some(behind)
+        && lac.disk.bytes().strip_prefix(&file[..224]) == Some(behind)
 }
 
-/// The ring of a LAC that started again: its tunnel has this id, and behind the file of before its disk has these bytes.
-fn rings_again(alloc: Global, tunnel: u16, file: &[u8; 193], behind: &[u8]) -> bool {
+/// The ring of a LAC that started again, and whose tunnel was closed: its tunnel has this id, and behind the file of before its disk has
+/// these bytes.
+fn rings_again(alloc: Global, tunnel: u16, file: &[u8; 225], behind: &[u8]) -> bool {
     let Some(lac) = rung_again(alloc) else {
         return false;
     };
     let is_rung = has_rung(alloc, &lac, tunnel, file, behind);
     let mut disk = lac.into_disk();
-    is_rung && has_ceilings(alloc, &mut disk, 128, 7)
+    is_rung && has_ceilings(alloc, &mut disk, 128, 8)
 }
 
-/// The ring of a LAC that started again, whose disk stops at this call: why it isn't made, and which tunnels the LAC has then.
+/// The ring of that LAC, whose disk stops at this call: why it isn't made, and which tunnels the LAC has then.
 fn ring_stops_at(alloc: Global, call: u64) -> Option<(Option<StoreStop>, (usize, u16, u16))> {
-    let (_, lac) = started_again(alloc)?;
-    let mut lac = lac.stopping(alloc, call.saturating_sub(1))?;
+    let mut lac = closed_again(alloc)?.stopping(alloc, call.saturating_sub(1))?;
     let stop = lac.stop_of(&Event::Ring { port: 1 });
     Some((stop, lac.tunnels(alloc).ok()?))
 }
@@ -262,8 +336,43 @@ fn a_stop_at_each_call_leaves_the_first_few_records(rt: HostRuntime) -> Result<(
 }
 
 #[test]
-fn a_start_after_a_crash_lets_the_tunnel_go_on_the_disk_too(rt: HostRuntime) -> Result<(), Fail> {
-    assert!(rt; lets_go(rt.alloc(), GONE_FILE));
+fn a_start_after_a_crash_has_its_tunnel_and_asks_for_its_recovery(
+    rt: HostRuntime,
+) -> Result<(), Fail> {
+    assert!(rt; recovers(rt.alloc(), STARTED_FILE));
+    Ok(())
+}
+
+#[test]
+fn a_start_in_which_the_disk_stops_leaves_the_first_few_records(
+    rt: HostRuntime,
+) -> Result<(), Fail> {
+    for (call, lost, kept) in [
+        (1, 4, 4),
+        (2, 4, 4),
+        (3, 4, 5),
+        (4, 4, 5),
+        (5, 5, 5),
+        (6, 5, 5),
+        (7, 5, 6),
+        (8, 5, 6),
+    ] {
+        assert!(rt;
+            start_leaves(rt.alloc(), call, false, STARTED_FILE) == Some(lost),
+            "call {call}"
+        );
+        assert!(rt;
+            start_leaves(rt.alloc(), call, true, STARTED_FILE) == Some(kept),
+            "call {call}"
+        );
+    }
+    assert!(rt; start_leaves(rt.alloc(), 9, false, STARTED_FILE).is_none());
+    Ok(())
+}
+
+#[test]
+fn a_ring_waits_for_no_recovery(rt: HostRuntime) -> Result<(), Fail> {
+    assert!(rt; is_unrung(rt.alloc(), STARTED_FILE));
     Ok(())
 }
 
@@ -271,13 +380,13 @@ fn a_start_after_a_crash_lets_the_tunnel_go_on_the_disk_too(rt: HostRuntime) -> 
 fn a_ring_after_a_crash_draws_above_the_ceiling_and_commits_a_new_one_first(
     rt: HostRuntime,
 ) -> Result<(), Fail> {
-    assert!(rt; rings_again(rt.alloc(), 65, GONE_FILE, RUNG_AGAIN));
-    for call in 1..=8 {
+    assert!(rt; rings_again(rt.alloc(), 66, STARTED_FILE, RUNG_AGAIN));
+    for call in 1..=4 {
         assert!(rt;
             ring_stops_at(rt.alloc(), call) == Some((Some(StoreStop::StoreFault), (0, 0, 0))),
             "call {call}"
         );
     }
-    assert!(rt; ring_stops_at(rt.alloc(), 9) == Some((None, (1, 65, 0))));
+    assert!(rt; ring_stops_at(rt.alloc(), 5) == Some((None, (1, 66, 0))));
     Ok(())
 }

@@ -14,8 +14,8 @@ use Rattle.end_model.specs.declared.tunnel.Config.{Config}
 use Rattle.end_model.specs.Access.{new_access}
 use Rattle.end_model.specs.Contents.{contents_of}
 use Rattle.end_model.specs.Starting.{bare_end, starts}
-use Rattle.end_core.specs.declared.end.Given.{Given}
-use Rattle.end_core.specs.Gives.{GivesStep}
+use Rattle.lac_core.specs.Cores.{Given}
+use Rattle.lac_core.specs.Cores.{GivesStep}
 use Rattle.lac_core.specs.Gives.{GivesStart, end_step, starts_with}
 use Rattle.end_store.specs.declared.store.StoreStop.{StoreStop}
 use Rattle.end_store.specs.declared.store.StoreStop.TheVariants as stop
@@ -68,7 +68,7 @@ unopened_as holds reach calls_left faults kind number records disk now T view (j
 unopened_as holds reach calls_left faults kind number records disk now T view journal.StoreFault opens safe left cause = (inl (record { left = left; safe = safe }), cause)
 unopened_as holds reach calls_left faults kind number records disk now T view journal.NoMemory opens safe left cause = (inl (record { left = left; safe = safe }), cause)
 
-module _ {D : Type 0} (holds : D → Option Held) (reach calls_left faults : D → ℕ) (config : Config) (disk mid now : D) (opened : Stored) where
+module _ {D : Type 0} (holds : D → Option Held) (reach calls_left faults : D → ℕ) (config : Config) (moment : ℕ) (block : List ℕ) (disk mid now : D) (opened : Stored) where
   -- the end of that store, as a fall leaves it
   abbrev pub lac_over : List ℕ → LacStored
   lac_over key = record { lac = record { end = bare_end Lac config opened.kept; access = new_access key }; store = opened }
@@ -77,41 +77,41 @@ module _ {D : Type 0} (holds : D → Option Held) (reach calls_left faults : D �
   lns_over = record { lns = bare_end Lns config opened.kept; store = opened }
 
   abbrev lac_starts : List ℕ → LacStored → List Record
-  lac_starts key x = contents_of x.lac.end (end_step (starts_with x.lac key x.store.kept))
+  lac_starts key x = contents_of x.lac.end (end_step (starts_with x.lac key x.store.kept moment block))
 
   abbrev lns_starts : LnsStored → List Record
-  lns_starts x = contents_of x.lns (starts x.lns.role x.lns.config x.store.kept)
+  lns_starts x = contents_of x.lns (starts x.lns.role x.lns.config x.store.kept moment block)
 
   pub lac_opened : (key : List ℕ) (over after : LacStored) (g : Given) → IsOpened holds reach calls_left faults config.number disk mid now opened 1 → over ≡ lac_over key
       → StepsOnDisk {T = Given} holds reach calls_left faults (lac_starts key over) over.store after.store mid now (Ok g)
-      → GivesStart {F = StoreStop} (Ok g) (starts_with over.lac key over.store.kept) over.lac after.lac → OpensLac holds reach calls_left faults config key disk now after g
+      → GivesStart {F = StoreStop} (Ok g) (starts_with over.lac key over.store.kept moment block) over.lac after.lac → OpensLac holds reach calls_left faults config moment block key disk now after g
   unfolding on_disk
   lac_opened key over after g is made h gives = record {
-    found = on_disk holds reach calls_left faults config.number disk mid now opened 1 is (λ k. contents_of (bare_end Lac config k) (starts Lac config k)) after.store (Ok g)
+    found = on_disk holds reach calls_left faults config.number disk mid now opened 1 is (λ k. contents_of (bare_end Lac config k) (starts Lac config k moment block)) after.store (Ok g)
         (subst (λ (x : LacStored). StepsOnDisk {T = Given} holds reach calls_left faults (lac_starts key x) x.store after.store mid now (Ok g)) made h);
-    given = subst (λ (x : LacStored). GivesStart {F = StoreStop} (Ok g) (starts_with x.lac key x.store.kept) x.lac after.lac) made gives;
+    given = subst (λ (x : LacStored). GivesStart {F = StoreStop} (Ok g) (starts_with x.lac key x.store.kept moment block) x.lac after.lac) made gives;
   }
 
   pub lac_stops : (T : Type 0) (key : List ℕ) (over : LacStored) (after : Stored) (e : StoreStop) → IsOpened holds reach calls_left faults config.number disk mid now opened 1 → over ≡ lac_over key
       → StepsOnDisk {T = T} holds reach calls_left faults (lac_starts key over) over.store after mid now (Err e)
-      → OpenStops holds reach calls_left faults 1 config.number (λ k. contents_of (bare_end Lac config k) (starts Lac config k)) disk now (unstarted e)
+      → OpenStops holds reach calls_left faults 1 config.number (λ k. contents_of (bare_end Lac config k) (starts Lac config k moment block)) disk now (unstarted e)
   lac_stops T key over after e is made h =
-      stops_as holds reach calls_left faults config.number disk mid now opened 1 is (λ k. contents_of (bare_end Lac config k) (starts Lac config k)) after T e
+      stops_as holds reach calls_left faults config.number disk mid now opened 1 is (λ k. contents_of (bare_end Lac config k) (starts Lac config k moment block)) after T e
       (subst (λ (x : LacStored). StepsOnDisk {T = T} holds reach calls_left faults (lac_starts key x) x.store after mid now (Err e)) made h)
 
   pub lns_opened : (over after : LnsStored) (g : Given) → IsOpened holds reach calls_left faults config.number disk mid now opened 2 → over ≡ lns_over
       → StepsOnDisk {T = Given} holds reach calls_left faults (lns_starts over) over.store after.store mid now (Ok g)
-      → GivesStep {F = StoreStop} (Ok g) (starts over.lns.role over.lns.config over.store.kept) over.lns after.lns → OpensLns holds reach calls_left faults config disk now after g
+      → GivesStep {F = StoreStop} (Ok g) (starts over.lns.role over.lns.config over.store.kept moment block) over.lns after.lns → OpensLns holds reach calls_left faults config moment block disk now after g
   unfolding on_disk
   lns_opened over after g is made h gives = record {
-    found = on_disk holds reach calls_left faults config.number disk mid now opened 2 is (λ k. contents_of (bare_end Lns config k) (starts Lns config k)) after.store (Ok g)
+    found = on_disk holds reach calls_left faults config.number disk mid now opened 2 is (λ k. contents_of (bare_end Lns config k) (starts Lns config k moment block)) after.store (Ok g)
         (subst (λ (x : LnsStored). StepsOnDisk {T = Given} holds reach calls_left faults (lns_starts x) x.store after.store mid now (Ok g)) made h);
-    given = subst (λ (x : LnsStored). GivesStep {F = StoreStop} (Ok g) (starts x.lns.role x.lns.config x.store.kept) x.lns after.lns) made gives;
+    given = subst (λ (x : LnsStored). GivesStep {F = StoreStop} (Ok g) (starts x.lns.role x.lns.config x.store.kept moment block) x.lns after.lns) made gives;
   }
 
   pub lns_stops : (T : Type 0) (over : LnsStored) (after : Stored) (e : StoreStop) → IsOpened holds reach calls_left faults config.number disk mid now opened 2 → over ≡ lns_over
       → StepsOnDisk {T = T} holds reach calls_left faults (lns_starts over) over.store after mid now (Err e)
-      → OpenStops holds reach calls_left faults 2 config.number (λ k. contents_of (bare_end Lns config k) (starts Lns config k)) disk now (unstarted e)
+      → OpenStops holds reach calls_left faults 2 config.number (λ k. contents_of (bare_end Lns config k) (starts Lns config k moment block)) disk now (unstarted e)
   lns_stops T over after e is made h =
-      stops_as holds reach calls_left faults config.number disk mid now opened 2 is (λ k. contents_of (bare_end Lns config k) (starts Lns config k)) after T e
+      stops_as holds reach calls_left faults config.number disk mid now opened 2 is (λ k. contents_of (bare_end Lns config k) (starts Lns config k moment block)) after T e
       (subst (λ (x : LnsStored). StepsOnDisk {T = T} holds reach calls_left faults (lns_starts x) x.store after mid now (Err e)) made h)

@@ -12,10 +12,9 @@ ghost use Rattle.stored_ends.specs.Opening.{OpensLac};
 
 use crate::stops::{OpenStop, stops_of, unopened, unstarted};
 use disk_core::Disk;
-use end_core::Given;
 use end_model::{Config, Event};
 use end_store::{OnDisk, Store, StoreStop};
-use lac_core::{Lac, LacGiven};
+use lac_core::{Given, Lac, LacGiven};
 use std::alloc::Global;
 use std::marker::Model;
 
@@ -45,37 +44,44 @@ impl StoredLac {
         StoredLac { lac, store }
     }
 
-    /// Opens the LAC with this configuration over a disk: its store, and then the LAC over the store's book, which starts, with this key of
-    /// 16 bytes for its cookies. It gives what the start gave. A file of at most 33 bytes whose first one isn't an open gate is made new.
-    /// Whatever comes of it, what may be found on the disk opens with the book from before, or with the first few records of the start
-    /// behind it, once the file is made.
+    /// Opens the LAC with this configuration over a disk: its store, and then the LAC over the store's book, which starts at a moment in
+    /// milliseconds with a block of random bytes, and with this key of 16 bytes for its cookies. It gives what the start gave. A file of at
+    /// most 33 bytes whose first one isn't an open gate is made new. Whatever comes of it, what may be found on the disk opens with the
+    /// book from before, or with the first few records of the start behind it, once the file is made.
     pub fn open<D: Disk>(
         alloc: Global,
         disk: &mut D,
         config: Config,
+        moment: u64,
+        block: [u8; 16],
         key: [u8; 16],
     ) -> Result<(StoredLac, Given), OpenStop>
-        ensures opened { IfOk result (λ r. OpensLac D.holds D.reach D.calls_left D.faults config key disk.old disk.new r.0 r.1) }
-        ensures stops { IfErr result (OpenStops D.holds D.reach D.calls_left D.faults 1 config.number (λ k. contents_of (bare_end roles.Lac config k) (starts roles.Lac config k)) disk.old disk.new) }
+        ensures opened { IfOk result (λ r. OpensLac D.holds D.reach D.calls_left D.faults config moment block key disk.old disk.new r.0 r.1) }
+        ensures stops { IfErr result (OpenStops D.holds D.reach D.calls_left D.faults 1 config.number (λ k. contents_of (bare_end roles.Lac config k) (starts roles.Lac config k moment block)) disk.old disk.new) }
     {
         let store = match Store::open(alloc, disk, 1, config.number) {
             Ok(store) => store,
             Err(stop) => return Err(unopened(stop)),
         };
         let mut lac = StoredLac::over(alloc, config, key, store);
-        match lac.start(disk, key) {
+        match lac.start(disk, moment, block, key) {
             Ok(given) => Ok((lac, given)),
             Err(stop) => Err(unstarted(stop)),
         }
     }
 
-    /// The LAC starts over the store's book, with a new key for its cookies: each tunnel that was kept goes with its calls, by local ids,
-    /// and the hosts of those calls are known, so that each is told by a PADT. What that leaves is on the disk before it is made; where
-    /// it isn't made, it is for the causes of `step`.
-    pub fn start<D: Disk>(&mut self, disk: &mut D, key: [u8; 16]) -> Result<Given, StoreStop>
+    /// The LAC starts over the store's book as `Lac::start` says. What that leaves is on the disk before it is made; where it isn't made,
+    /// it is for the causes of `step`.
+    pub fn start<D: Disk>(
+        &mut self,
+        disk: &mut D,
+        moment: u64,
+        block: [u8; 16],
+        key: [u8; 16],
+    ) -> Result<Given, StoreStop>
         requires { self.old.store.journal.halted ≡ false → HasRoom D.reach D.calls_left self.old.store.journal disk.old }
-        ensures given { GivesStart result (starts_with self.old.lac key self.old.store.kept) self.old.lac self.new.lac }
-        ensures disk { StepsOnDisk D.holds D.reach D.calls_left D.faults (contents_of self.old.lac.end (end_step (starts_with self.old.lac key self.old.store.kept))) self.old.store self.new.store disk.old disk.new result }
+        ensures given { GivesStart result (starts_with self.old.lac key self.old.store.kept moment block) self.old.lac self.new.lac }
+        ensures disk { StepsOnDisk D.holds D.reach D.calls_left D.faults (contents_of self.old.lac.end (end_step (starts_with self.old.lac key self.old.store.kept moment block))) self.old.store self.new.store disk.old disk.new result }
     {
         if self.store.is_halted() {
             return Err(StoreStop::Halted);
@@ -84,7 +90,7 @@ impl StoredLac {
             store: &mut self.store,
             disk,
         };
-        stops_of(self.lac.start(&mut ledger, key))
+        stops_of(self.lac.start(&mut ledger, moment, block, key))
     }
 
     /// The LAC, with its tunnels and its hosts.

@@ -6,5 +6,6 @@ mod lns;
 mod stops;
 
 pub use lac::StoredLac;
+pub use lac_core::{Given, Lac, LacGiven};
 pub use lns::StoredLns;
 pub use stops::OpenStop;

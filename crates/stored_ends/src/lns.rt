@@ -6,15 +6,15 @@ ghost use Rattle.end_model.specs.End.{step};
 ghost use Rattle.end_model.specs.Starting.{bare_end, starts};
 ghost use Rattle.end_names.specs.declared.role.Role.TheVariants as roles;
 ghost use Rattle.checkpoint_journal.specs.State.{HasRoom};
-ghost use Rattle.end_core.specs.Gives.{GivesStep};
+ghost use Rattle.lac_core.specs.Cores.{GivesStep};
 ghost use Rattle.stored_ends.specs.Steps.{StepsOnDisk, OpenStops};
 ghost use Rattle.stored_ends.specs.Opening.{OpensLns};
 
 use crate::stops::{OpenStop, stops_of, unopened, unstarted};
 use disk_core::Disk;
-use end_core::Given;
 use end_model::{Config, Event};
 use end_store::{OnDisk, Store, StoreStop};
+use lac_core::Given;
 use lns_core::Lns;
 use std::alloc::Global;
 use std::marker::Model;
@@ -45,34 +45,42 @@ impl StoredLns {
         StoredLns { lns, store }
     }
 
-    /// Opens the LNS with this configuration over a disk: its store, and then the LNS over the store's book, which starts. It gives what
-    /// the start gave. A file of at most 33 bytes whose first one isn't an open gate is made new. Whatever comes of it, what may be
-    /// found on the disk opens with the book from before, or with the first few records of the start behind it, once the file is made.
+    /// Opens the LNS with this configuration over a disk: its store, and then the LNS over the store's book, which starts at a moment in
+    /// milliseconds with a block of random bytes. It gives what the start gave. A file of at most 33 bytes whose first one isn't an open
+    /// gate is made new. Whatever comes of it, what may be found on the disk opens with the book from before, or with the first few records
+    /// of the start behind it, once the file is made.
     pub fn open<D: Disk>(
         alloc: Global,
         disk: &mut D,
         config: Config,
+        moment: u64,
+        block: [u8; 16],
     ) -> Result<(StoredLns, Given), OpenStop>
-        ensures opened { IfOk result (λ r. OpensLns D.holds D.reach D.calls_left D.faults config disk.old disk.new r.0 r.1) }
-        ensures stops { IfErr result (OpenStops D.holds D.reach D.calls_left D.faults 2 config.number (λ k. contents_of (bare_end roles.Lns config k) (starts roles.Lns config k)) disk.old disk.new) }
+        ensures opened { IfOk result (λ r. OpensLns D.holds D.reach D.calls_left D.faults config moment block disk.old disk.new r.0 r.1) }
+        ensures stops { IfErr result (OpenStops D.holds D.reach D.calls_left D.faults 2 config.number (λ k. contents_of (bare_end roles.Lns config k) (starts roles.Lns config k moment block)) disk.old disk.new) }
     {
         let store = match Store::open(alloc, disk, 2, config.number) {
             Ok(store) => store,
             Err(stop) => return Err(unopened(stop)),
         };
         let mut lns = StoredLns::over(alloc, config, store);
-        match lns.start(disk) {
+        match lns.start(disk, moment, block) {
             Ok(given) => Ok((lns, given)),
             Err(stop) => Err(unstarted(stop)),
         }
     }
 
-    /// The LNS starts over the store's book: each tunnel that was kept goes with its calls, by local ids. What that leaves is on the disk
-    /// before it is made; where it isn't made, it is for the causes of `step`.
-    pub fn start<D: Disk>(&mut self, disk: &mut D) -> Result<Given, StoreStop>
+    /// The LNS starts over the store's book as `Lns::start` says. What that leaves is on the disk before it is made; where it isn't made,
+    /// it is for the causes of `step`.
+    pub fn start<D: Disk>(
+        &mut self,
+        disk: &mut D,
+        moment: u64,
+        block: [u8; 16],
+    ) -> Result<Given, StoreStop>
         requires { self.old.store.journal.halted ≡ false → HasRoom D.reach D.calls_left self.old.store.journal disk.old }
-        ensures given { GivesStep result (starts self.old.lns.role self.old.lns.config self.old.store.kept) self.old.lns self.new.lns }
-        ensures disk { StepsOnDisk D.holds D.reach D.calls_left D.faults (contents_of self.old.lns (starts self.old.lns.role self.old.lns.config self.old.store.kept)) self.old.store self.new.store disk.old disk.new result }
+        ensures given { GivesStep result (starts self.old.lns.role self.old.lns.config self.old.store.kept moment block) self.old.lns self.new.lns }
+        ensures disk { StepsOnDisk D.holds D.reach D.calls_left D.faults (contents_of self.old.lns (starts self.old.lns.role self.old.lns.config self.old.store.kept moment block)) self.old.store self.new.store disk.old disk.new result }
     {
         if self.store.is_halted() {
             return Err(StoreStop::Halted);
@@ -81,7 +89,7 @@ impl StoredLns {
             store: &mut self.store,
             disk,
         };
-        stops_of(self.lns.start(&mut ledger))
+        stops_of(self.lns.start(&mut ledger, moment, block))
     }
 
     /// The LNS, with its tunnels.

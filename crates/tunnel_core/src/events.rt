@@ -5,18 +5,18 @@ ghost use Rattle.id_table.specs.Ids.{at};
 ghost use Rattle.end_model.specs.Linking.{hears_lcp};
 ghost use Rattle.end_model.specs.Events.{turns};
 
-use crate::closing::{drop_call, hang};
-use crate::frames::carry;
 use crate::hearing::hear_datagram;
-use crate::links::hear_lcp;
-use crate::openings::open_tunnel;
-use crate::ringing::ring;
-use crate::stopping::close_now;
-use crate::ticking::tick;
-use crate::turn::Turn;
 use end_model::{Config, Event, Role, subscriber};
 use send_window::Letters;
 use tunnel_calls::TunnelCalls;
+use tunnel_turn::closing::{drop_call, hang};
+use tunnel_turn::frames::carry;
+use tunnel_turn::links::hear_lcp;
+use tunnel_turn::openings::open_tunnel;
+use tunnel_turn::ringing::ring;
+use tunnel_turn::stopping::close_now;
+use tunnel_turn::ticking::tick;
+use tunnel_turn::turn::Turn;
 use wire_base::{NoMemory, Why};
 
 /// An LCP packet came up the call of this session, in a frame from its protocol field on.

@@ -7,9 +7,6 @@ ghost use Rattle.end_model.specs.Faulty.{faulty_at, faulty, in_faulty_call};
 ghost use Rattle.end_model.specs.Hearing.{hears_faulty};
 
 use crate::hearing::take_letter;
-use crate::refusing::{answer, answer_no_call, refuse};
-use crate::told::Told;
-use crate::turn::Turn;
 use call_fsm::{CallAction, CallEvent, CallState};
 use control_message::Kind;
 use end_model::{Call, Config, Role};
@@ -17,6 +14,9 @@ use message_reading::{CallFault, Reason, Said, fault_reason};
 use tunnel_calls::TunnelCalls;
 use tunnel_fsm::TunnelState;
 use tunnel_rules::call_row;
+use tunnel_turn::refusing::{answer, answer_no_call, refuse};
+use tunnel_turn::told::Told;
+use tunnel_turn::turn::Turn;
 use wire_base::{Cause, NoMemory, Why};
 
 /// What is done for a faulty letter by the table's row for this event, or, where there is no such call, by the action `none`.

@@ -3,22 +3,14 @@
 ghost use Rattle.std.specs.Prelude.{◌≡◌, ℕ, false, OnOk};
 ghost use Rattle.control_message.specs.declared.message.Message.TheVariants.{Sccrq, Sccrp, Scccn};
 ghost use Rattle.l2tp_header.specs.Reading.{header_of};
-ghost use Rattle.end_model.specs.Hearing.{connects, takes, about_call, in_call, hears, hears_said, hears_next, hears_letter, is_duplicate, in_tunnel, first_said, hears_control, hears_datagram};
+ghost use Rattle.end_model.specs.Hearing.{connects, takes, about_call, in_call, hears, hears_said, hears_next, hears_letter, is_duplicate, in_tunnel, first_said, mode_why, ignores_all, hears_control, hears_datagram};
 ghost use Rattle.end_model.specs.Sending.{settles};
 ghost use Rattle.end_model.specs.Asking.{session_named};
 ghost use Rattle.end_model.specs.Connecting.{ends_named};
 
-use crate::asking::take_request;
-use crate::calls::{take_connection, take_end, take_reply};
 use crate::faulty::hear_fault;
-use crate::openings::{accept, confirm, connect};
-use crate::refusing::refuse;
-use crate::ringing::request_all;
-use crate::stopping::{close_tunnel, reject, take_stop};
-use crate::told::Told;
-use crate::turn::Turn;
 use control_message::{Message, Opening};
-use end_model::{Config, Role};
+use end_model::{Config, Mode, Move, Role};
 use l2tp_datagram::{Body, Datagram};
 use l2tp_header::Header;
 use message_reading::{
@@ -31,7 +23,15 @@ use session_looks::header_why;
 use tunnel_calls::TunnelCalls;
 use tunnel_fsm::{TunnelAction, TunnelEvent, TunnelState, advance};
 use tunnel_rules::{may_take, same_state};
-use tunnel_timers::is_closed;
+use tunnel_timers::{is_closed, is_current};
+use tunnel_turn::asking::take_request;
+use tunnel_turn::calls::{take_connection, take_end, take_reply};
+use tunnel_turn::openings::{accept, confirm, connect};
+use tunnel_turn::refusing::refuse;
+use tunnel_turn::ringing::request_all;
+use tunnel_turn::stopping::{close_tunnel, reject, take_stop};
+use tunnel_turn::told::Told;
+use tunnel_turn::turn::Turn;
 use wire_base::{NoMemory, Why};
 
 /// Takes the SCCRP, and asks for each call that waits for the tunnel.
@@ -355,6 +355,29 @@ pub(crate) fn hear_opening(
     turn.settle(false, letters)
 }
 
+/// Why a tunnel in a mode in which nothing is taken drops a message.
+fn mode_why(mode: Mode) -> Why
+    ensures { result ≡ mode_why mode }
+{
+    match mode {
+        Mode::Restored => Why::Restored,
+        Mode::Current | Mode::Frozen => Why::Frozen,
+    }
+}
+
+/// A tunnel that is frozen or restored hears that its peer is there, and looks at no message.
+#[tactic(auto, unfolding(end_model::specs::Hearing::ignores_all))]
+fn ignore_all(turn: &mut Turn) -> Result<(), NoMemory>
+    ensures { OnOk result (turn.new ≡ ignores_all turn.old) }
+{
+    let why = mode_why(turn.mode);
+    turn.control.heard = turn.moment;
+    turn.did(Move::Ignored {
+        tunnel: turn.control.local,
+    })?;
+    turn.drop_with(why)
+}
+
 /// A control message for the tunnel: its Nr is read first.
 #[tactic(auto, unfolding(end_model::specs::Hearing::hears_control))]
 fn hear_control(
@@ -371,6 +394,9 @@ fn hear_control(
     if turn.control.state == TunnelState::Idle {
         let said = read_body(turn.alloc, body)?;
         return hear_opening(turn, role, config, letters, &said.message);
+    }
+    if !is_current(turn.mode) {
+        return ignore_all(turn);
     }
     let ns = header.ns.unwrap_or(0);
     let class = turn.control.channel.classify(ns, body.is_empty());

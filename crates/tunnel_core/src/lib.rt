@@ -4,26 +4,15 @@
 //! changes takes no memory. So where memory is wanting, the tunnel is as before.
 #![tactic(auto)]
 
-mod asking;
-mod calls;
-mod closing;
-mod env;
 mod events;
 mod faulty;
-mod frames;
 mod hearing;
-mod links;
-mod openings;
 mod planning;
-mod refusing;
-mod ringing;
-mod sending;
-mod stopping;
-mod ticking;
-mod told;
-mod turn;
+mod task;
+mod tasks;
 
-pub use env::{Env, Moves, Outputs};
 pub use planning::{Planned, TunnelCore};
+pub use task::Task;
 pub use tunnel_calls::{CallRows, Rows};
 pub use tunnel_rules::same_state;
+pub use tunnel_turn::env::{Env, Moves, Outputs};

@@ -1,30 +1,36 @@
 //! A tunnel with its calls: an event is planned, and then made.
 
-ghost use Rattle.std.specs.Prelude.{◌≡◌, ◌≤◌, ◌++◌, length, false, OnOk, OnErr, IfOk};
+ghost use Rattle.std.specs.Prelude.{◌≡◌, ◌≤◌, ◌<◌, ◌++◌, length, false, option_map, unwrap_or, OnOk, OnErr, IfOk};
 ghost use Rattle.end_model.specs.Sending.{settles};
 ghost use Rattle.end_model.specs.Hearing.{first_said};
+ghost use Rattle.std.specs.Option.{option_copied};
 ghost use Rattle.end_model.specs.Openings.{fresh};
-ghost use Rattle.end_model.specs.Tunnels.{new_tunnel, turn_of};
+ghost use Rattle.end_model.specs.Starting.{kept_control};
+ghost use Rattle.end_model.specs.Tunnels.{new_tunnel, turn_of, turn_in, mode_of};
 ghost use Rattle.end_model.specs.Turn.{with_turn};
-ghost use Rattle.end_model.specs.Events.{turns, with_calls, tunnel_after};
+ghost use Rattle.end_model.specs.Events.{with_calls, tunnel_after};
 ghost use Rattle.tunnel_timers.specs.Due.{IsNoLater, tunnel_due};
 ghost use Rattle.tunnel_calls.specs.Telling.{rows_of, pairs_of, RowsLead};
-ghost use Rattle.tunnel_core.specs.Cores.{tunnel_of, made_of, AllHaveRoom, AllCallsReplay, HasRoomFor, IsTurn};
+ghost use Rattle.tunnel_turn.specs.Changes.{AllCallsReplay};
+ghost use Rattle.tunnel_core.specs.Cores.{tunnel_of, made_of, recovery_after, task_turn, beside, HasId, AllHaveRoom, HasRoomFor, IsTurn};
 
-use crate::env::Env;
-use crate::events::run;
 use crate::hearing::hear_opening;
-use crate::turn::{Changed, Given, Turn};
+use crate::task::Task;
+use crate::tasks::run_task;
 use control_channel::ChannelNumbers;
 use control_message::Message;
-use end_model::{Call, Config, Control, Event, Role};
+use end_model::{Call, Config, Control, Mode, Role};
 use id_table::Table;
+use recovery_tunnel::Recovering;
 use send_window::Letters;
+use session_book::BookTunnel;
 use std::alloc::Global;
 use std::marker::Model;
 use tunnel_calls::{Rows, TunnelCalls};
 use tunnel_fsm::TunnelState;
-use tunnel_timers::channel_due;
+use tunnel_timers::{channel_due, recovery_due};
+use tunnel_turn::env::Env;
+use tunnel_turn::turn::{Changed, Given, Turn};
 use wire_base::{NoMemory, Pairs, Sequence, Why};
 
 /// What counts as the peer's receive window, in letters, as long as it isn't known (RFC 2661 section 4.4.3).
@@ -35,6 +41,8 @@ const WINDOW: u16 = 4;
 pub struct Planned {
     /// The turn that the step is. It is handed on through some calls, so that it stands in a box.
     turn: Box<Turn>,
+    /// What the recovery tunnel becomes, where the step is about that.
+    recovery: Option<Option<Recovering>>,
 }
 
 impl Model for Planned {
@@ -42,7 +50,7 @@ impl Model for Planned {
 
     ghost Value = { Plan };
 
-    ghost view = { λ p. record { control = p.turn.value.control; acked = p.turn.value.acked; given = p.turn.value.given; cleared = p.turn.value.cleared; changed = p.turn.value.changed; added = p.turn.value.added } };
+    ghost view = { λ p. record { control = p.turn.value.control; acked = p.turn.value.acked; given = p.turn.value.given; cleared = p.turn.value.cleared; changed = p.turn.value.changed; added = p.turn.value.added; recovery = p.recovery } };
 }
 
 impl Planned {
@@ -67,6 +75,16 @@ impl Planned {
         self.turn.cleared
     }
 
+    /// What the recovery tunnel becomes, where the step is about that; else it stays.
+    pub fn recovery(&self) -> Option<Option<&Recovering>>
+        ensures { option_map (λ o. option_copied o) result ≡ self.now.recovery }
+    {
+        match &self.recovery {
+            None => None,
+            Some(after) => Some(after.as_ref()),
+        }
+    }
+
     /// The local session ids of the calls that the step makes, in the order in which they are drawn.
     pub fn added(&self) -> &[u16]
         ensures { result.now ≡ self.now.added }
@@ -83,6 +101,7 @@ pub struct TunnelCore {
     /// Those that aren't acknowledged.
     letters: Letters,
     calls: TunnelCalls,
+    recovery: Option<Recovering>,
 }
 
 impl Model for TunnelCore {
@@ -90,7 +109,23 @@ impl Model for TunnelCore {
 
     ghost Value = { Core };
 
-    ghost view = { λ c. record { control = c.control; letters = c.letters; calls = c.calls } };
+    ghost view = { λ c. record { control = c.control; letters = c.letters; calls = c.calls; recovery = c.recovery } };
+}
+
+/// The mode of a tunnel that has this recovery tunnel.
+fn mode_by(recovery: Option<&Recovering>) -> Mode
+    ensures { result ≡ mode_of (option_copied recovery.entry) }
+{
+    let Some(recovery) = recovery else {
+        return Mode::Current;
+    };
+    if recovery.is_reset() {
+        return Mode::Current;
+    }
+    match recovery {
+        Recovering::ByAttempt(_) => Mode::Restored,
+        Recovering::ByAnswer(_) => Mode::Frozen,
+    }
 }
 
 /// Makes room in a table for each of these calls. Where memory is wanting, the calls are as before.
@@ -122,11 +157,31 @@ impl TunnelCore {
                 heard: moment,
                 closed: 0,
                 flags: 0,
+                mark: 0,
                 challenge: None,
             },
             letters: Letters::new(alloc),
             calls: TunnelCalls::new(alloc),
+            recovery: None,
         }
+    }
+
+    /// A tunnel that was kept, as its end starts at a moment: its channel does nothing until it is reset, and its calls come back in its
+    /// first step.
+    pub fn kept(alloc: Global, tunnel: &BookTunnel, moment: u64) -> TunnelCore
+        requires { 0 < tunnel.now.window }
+        ensures { tunnel_of result ≡ new_tunnel (kept_control moment tunnel.now) }
+    {
+        let mut channel = ChannelNumbers::new(0, 0, tunnel.window);
+        channel.freeze();
+        let mut core = TunnelCore::idle(alloc, tunnel.peer, moment);
+        core.control.local = tunnel.local;
+        core.control.remote = tunnel.remote;
+        core.control.state = TunnelState::Established;
+        core.control.channel = channel;
+        core.control.flags = tunnel.flags;
+        core.control.mark = tunnel.mark;
+        core
     }
 
     /// The tunnel apart from its calls.
@@ -165,11 +220,26 @@ impl TunnelCore {
         self.calls.replays();
     }
 
+    /// Its recovery tunnel, as long as there is one.
+    pub fn recovery(&self) -> Option<&Recovering>
+        ensures { option_copied result ≡ self.now.recovery }
+    {
+        self.recovery.as_ref()
+    }
+
+    /// Whether it is current, frozen or restored.
+    pub fn mode(&self) -> Mode
+        ensures { result ≡ mode_of self.now.recovery }
+    {
+        mode_by(self.recovery.as_ref())
+    }
+
     /// A moment before which a tick does nothing for the tunnel, in milliseconds.
     pub fn due(&self) -> u64
         ensures { IsNoLater result (tunnel_due (tunnel_of self.now)) }
     {
-        channel_due(&self.control).min(self.calls.due())
+        let main = channel_due(self.mode(), &self.control).min(self.calls.due());
+        main.min(recovery_due(self.recovery()))
     }
 
     /// Looks at all calls where something may be due for one at this moment, so that it is known again when something is. It leaves
@@ -180,24 +250,34 @@ impl TunnelCore {
         self.calls.look_again(moment);
     }
 
-    /// Says what a step on an event will change, makes all room for it, and writes what it gives into `env`. What the
+    /// Says what a step about this will change, makes all room for it, and writes what it gives into `env`. What the
     /// tunnel stands for is as before; where memory is wanting, `env` is too.
     pub fn plan(
         &mut self,
         role: Role,
         config: &Config,
         env: &mut Env,
-        event: &Event,
+        task: &Task<'_>,
     ) -> Result<Planned, NoMemory>
+        requires { HasId task.now }
         ensures same { tunnel_of self.new ≡ tunnel_of self.old }
-        ensures planned { IfOk result (λ p. IsTurn p (turns role config.now self.old.letters.letters self.old.calls.entries event.now (turn_of self.old.control env.old))) }
+        ensures planned { IfOk result (λ p. IsTurn p self.old.recovery (task_turn role config.now (tunnel_of self.old) task.now (turn_in (tunnel_of self.old) env.old))) }
         ensures room { IfOk result (λ p. HasRoomFor self.new p) }
-        ensures given { OnOk result (env.new ≡ with_turn (turns role config.now self.old.letters.letters self.old.calls.entries event.now (turn_of self.old.control env.old)) env.old) }
+        ensures given { OnOk result (env.new ≡ with_turn (task_turn role config.now (tunnel_of self.old) task.now (turn_in (tunnel_of self.old) env.old)).turn env.old) }
         ensures kept { OnErr result (env.new ≡ env.old) }
     {
-        let mut turn = Box::new(self.alloc, Turn::new(self.alloc, self.control, env))?;
-        run(&mut turn, role, config, &self.letters, &self.calls, event)?;
-        self.planned(env, turn)
+        let turn = Turn::new(self.alloc, self.control, self.mode(), env);
+        let mut turn = Box::new(self.alloc, turn)?;
+        let recovery = run_task(
+            &mut turn,
+            role,
+            config,
+            &self.letters,
+            &self.calls,
+            self.recovery.as_ref(),
+            task,
+        )?;
+        self.planned(env, turn, recovery)
     }
 
     /// Plans the first step of a tunnel that is new, which its peer's first message makes, by what that says, as `plan` does by the
@@ -210,20 +290,26 @@ impl TunnelCore {
         said: &Result<Message, Why>,
     ) -> Result<Planned, NoMemory>
         ensures same { tunnel_of self.new ≡ tunnel_of self.old }
-        ensures planned { IfOk result (λ p. IsTurn p (settles false self.old.letters.letters (first_said role config.now said.now (turn_of self.old.control env.old)))) }
+        ensures planned { IfOk result (λ p. IsTurn p self.old.recovery (beside self.old.recovery (settles false self.old.letters.letters (first_said role config.now said.now (turn_in (tunnel_of self.old) env.old))))) }
         ensures room { IfOk result (λ p. HasRoomFor self.new p) }
-        ensures given { OnOk result (env.new ≡ with_turn (settles false self.old.letters.letters (first_said role config.now said.now (turn_of self.old.control env.old))) env.old) }
+        ensures given { OnOk result (env.new ≡ with_turn (settles false self.old.letters.letters (first_said role config.now said.now (turn_in (tunnel_of self.old) env.old))) env.old) }
         ensures kept { OnErr result (env.new ≡ env.old) }
     {
-        let mut turn = Box::new(self.alloc, Turn::new(self.alloc, self.control, env))?;
+        let turn = Turn::new(self.alloc, self.control, self.mode(), env);
+        let mut turn = Box::new(self.alloc, turn)?;
         hear_opening(&mut turn, role, config, &self.letters, said)?;
-        self.planned(env, turn)
+        self.planned(env, turn, None)
     }
 
     /// The plan of a step that is this turn, with all room for what it changes; what it gives is written into `env`.
-    fn planned(&mut self, env: &mut Env, turn: Box<Turn>) -> Result<Planned, NoMemory>
+    fn planned(
+        &mut self,
+        env: &mut Env,
+        turn: Box<Turn>,
+        recovery: Option<Option<Recovering>>,
+    ) -> Result<Planned, NoMemory>
         ensures same { tunnel_of self.new ≡ tunnel_of self.old }
-        ensures planned { IfOk result (λ p. IsTurn p turn.value) }
+        ensures planned { IfOk result (λ p. IsTurn p self.old.recovery (beside (unwrap_or recovery self.old.recovery) turn.value)) }
         ensures room { IfOk result (λ p. HasRoomFor self.new p) }
         ensures given { OnOk result (env.new ≡ with_turn turn.value env.old) }
         ensures kept { OnErr result (env.new ≡ env.old) }
@@ -232,7 +318,7 @@ impl TunnelCore {
         make_room(&mut self.calls, turn.changed.as_slice())?;
         self.letters.reserve(turn.given.len())?;
         env.take_in(&mut turn)?;
-        Ok(Planned { turn })
+        Ok(Planned { turn, recovery })
     }
 
     /// Makes the planned step. It takes no memory.
@@ -246,22 +332,26 @@ impl TunnelCore {
         give_all(&mut self.letters, turn.given);
         put_all(&mut self.calls, turn.changed);
         give_back(&mut self.calls, turn.ended.as_slice());
+        if let Some(recovery) = planned.recovery {
+            self.recovery = recovery;
+        }
     }
 
-    /// A step on an event. Where memory is wanting, the tunnel and `env` are as before.
+    /// A step about this. Where memory is wanting, the tunnel and `env` are as before.
     pub fn step(
         &mut self,
         role: Role,
         config: &Config,
         env: &mut Env,
-        event: &Event,
+        task: &Task<'_>,
     ) -> Result<(), NoMemory>
-        ensures made { OnOk result (tunnel_of self.new ≡ tunnel_after (turns role config.now self.old.letters.letters self.old.calls.entries event.now (turn_of self.old.control env.old)) self.old.letters.letters self.old.calls.entries) }
-        ensures given { OnOk result (env.new ≡ with_turn (turns role config.now self.old.letters.letters self.old.calls.entries event.now (turn_of self.old.control env.old)) env.old) }
+        requires { HasId task.now }
+        ensures made { OnOk result (tunnel_of self.new ≡ tunnel_after (task_turn role config.now (tunnel_of self.old) task.now (turn_in (tunnel_of self.old) env.old)).turn self.old.letters.letters self.old.calls.entries (task_turn role config.now (tunnel_of self.old) task.now (turn_in (tunnel_of self.old) env.old)).recovery) }
+        ensures given { OnOk result (env.new ≡ with_turn (task_turn role config.now (tunnel_of self.old) task.now (turn_in (tunnel_of self.old) env.old)).turn env.old) }
         ensures same { OnErr result (tunnel_of self.new ≡ tunnel_of self.old) }
         ensures kept { OnErr result (env.new ≡ env.old) }
     {
-        let planned = self.plan(role, config, env, event)?;
+        let planned = self.plan(role, config, env, task)?;
         self.apply(planned);
         Ok(())
     }

@@ -74,7 +74,7 @@ pub fn advanced(
 
 /// A call that nothing came to yet.
 #[tactic(auto, unfolding(tunnel_calls::specs::Replays::replays))]
-fn idle_call(alloc: Global, subscriber: [u8; 6]) -> Call
+pub fn idle_call(alloc: Global, subscriber: [u8; 6]) -> Call
     ensures value { result ≡ idle_call 0 subscriber }
     ensures replays { replays result ≡ true }
 {

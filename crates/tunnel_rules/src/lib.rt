@@ -7,8 +7,9 @@ mod openings;
 mod tunnels;
 
 pub use calls::{
-    advanced, asked_for, call_row, copy_call, counted, first_number, is_clean_up, is_connection,
-    is_passing, is_reply, is_request, number_after, number_of, request_of, rung, session_left,
+    advanced, asked_for, call_row, copy_call, counted, first_number, idle_call, is_clean_up,
+    is_connection, is_passing, is_reply, is_request, number_after, number_of, request_of, rung,
+    session_left,
 };
 pub use hiding::{copy_pairs, hidden_pairs};
 pub use openings::{challenge_by, opening_of};

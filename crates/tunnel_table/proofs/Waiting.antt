@@ -1,17 +1,27 @@
 -- Bounds below what is due in the tunnels of a table, and the tunnels that may wait.
-use Rattle.std.specs.Prelude.{◌≡◌, ℕ, min, List, []}
+use Rattle.std.specs.Prelude.{◌≡◌, ℕ, nat_lt, min, IsTrue, List, [], Option, Some, option_map}
 use Rattle.std.specs.List.{AllByRecursion}
 use Rattle.std.specs.List.Sorted.{IsStrictlySortedBy}
 use Rattle.std.specs.Ordering.{nat_cmp}
 use Rattle.std.specs.Prelude.{IsSome}
 use Rattle.std.proofs.Common.{sym, ap, subst, ◌∙◌}
+use Rattle.std.proofs.lemmas.Bool.{ltb-true}
+use Rattle.std.proofs.lemmas.Option.{same_Some}
 use Rattle.id_table.specs.Ids.{at, put, ids_of}
 use Rattle.id_table.specs.Order.{Ascends}
 use Rattle.end_model.specs.Tunnels.{Tunnel}
 use Rattle.tunnel_core.specs.Cores.{Core, tunnel_of}
 use Rattle.tunnel_timers.specs.Due.{earliest, earliest_at, tunnel_due, tunnels_due, IsNoLater, LeavesOut, IsEarly}
+use Rattle.tunnel_timers.specs.Moments.{below_bound}
 use Rattle.tunnel_timers.specs.Bounds.{tunnels_put, earliest_is, rest_holds, rest_ascend, all_there}
-use Rattle.tunnel_table.specs.Tunnels.{tunnels_of, ids_tunnels}
+use Rattle.tunnel_table.specs.Tunnels.{tunnels_of, at_tunnels, ids_tunnels}
+
+-- before what is a bound of a tunnel, that one is early
+pub early_at : (es : List (ℕ × Core)) (moment due id : ℕ) (core : Core) → at es id ≡ Some core → IsNoLater due (tunnel_due (tunnel_of core))
+    → IsTrue (nat_lt moment due) → IsEarly (tunnels_of es) moment id
+early_at es moment due id core there bound lt = λ t found.
+    let same : tunnel_of core ≡ t = same_Some (tunnel_of core) t (sym (at_tunnels es id ∙ ap (λ (o : Option Core). option_map tunnel_of o) there) ∙ found) in
+    below_bound due moment (tunnel_due t) (subst (λ (x : Tunnel). IsNoLater due (tunnel_due x)) same bound) (ltb-true moment due lt)
 
 pub none_due : (bound : ℕ) (es : List (ℕ × Core)) → es ≡ [] → IsNoLater bound (tunnels_due (tunnels_of es))
 unfolding earliest

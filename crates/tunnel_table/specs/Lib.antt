@@ -1,3 +1,4 @@
+pub mod Cores
 pub mod Tunnels
 pub mod Labels
 pub mod Plans

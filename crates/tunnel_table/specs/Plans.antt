@@ -4,24 +4,24 @@ use Rattle.id_table.specs.Ids.{at}
 use Rattle.id_table.specs.Tables.{Kept}
 use Rattle.end_model.specs.declared.tunnel.Config.{Config}
 use Rattle.end_names.specs.declared.role.Role.{Role}
-use Rattle.end_model.specs.declared.event.Event.{Event}
-use Rattle.end_model.specs.Tunnels.{Tunnel, Turn, Env, turn_of}
+use Rattle.end_model.specs.Tunnels.{Tunnel, Env, turn_in}
 use Rattle.end_model.specs.Turn.{with_turn}
-use Rattle.end_model.specs.Events.{turns}
+use Rattle.end_model.specs.Recovering.{RecoveryTurn}
 use Rattle.end_model.specs.End.{tunnels_after}
-use Rattle.tunnel_core.specs.Cores.{Core, Plan, IsTurn, HasRoomFor, made_of}
+use Rattle.tunnel_core.specs.declared.task.Task.{Task}
+use Rattle.tunnel_core.specs.Cores.{Core, Plan, IsTurn, HasRoomFor, made_of, task_turn}
 
--- the turn of a tunnel on an event
-abbrev pub turn_at : Role → Config → Event → Env → Tunnel → Turn
-turn_at role c ev env t = turns role c t.letters t.calls ev (turn_of t.control env)
+-- the turn of a tunnel about this
+abbrev pub turn_at : Role → Config → Task → Env → Tunnel → RecoveryTurn
+turn_at role c task env t = task_turn role c t task (turn_in t env)
 
--- the plan has what an event leads to at this tunnel
-abbrev pub IsPlanned : Role → Config → Event → Env → Option Tunnel → Plan → Type 0
-IsPlanned role c ev env o p = IfSome o (λ t. IsTurn p (turn_at role c ev env t))
+-- the plan has what that leads to at this tunnel
+abbrev pub IsPlanned : Role → Config → Task → Env → Option Tunnel → Plan → Type 0
+IsPlanned role c task env o p = IfSome o (λ t. IsTurn p t.recovery (turn_at role c task env t))
 
 -- and this took in what it gave
-abbrev pub IsGiven : Role → Config → Event → Env → Option Tunnel → Env → Type 0
-IsGiven role c ev env o later = IfSome o (λ t. later ≡ with_turn (turn_at role c ev env t) env)
+abbrev pub IsGiven : Role → Config → Task → Env → Option Tunnel → Env → Type 0
+IsGiven role c task env o later = IfSome o (λ t. later ≡ with_turn (turn_at role c task env t).turn env)
 
 -- there is a tunnel with the plan's id, and in it room for what is planned
 pub record HasPlace (kept : Kept Core) (p : ℕ × Plan) : Type 0 where

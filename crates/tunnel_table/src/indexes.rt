@@ -1,70 +1,21 @@
-//! The indexes of tunnels: by their peer and the id that it assigned, and by their peer and their state.
+//! The indexes of tunnels, each by one of their labels.
 
-ghost use Rattle.std.specs.Prelude.{◌≡◌, ◌<◌, ℕ, List, [], Option, option_copied, option_map, IfSome};
+ghost use Rattle.std.specs.Prelude.{◌≡◌, ℕ, List, [], Some, is_some, IfSome};
 ghost use Rattle.id_table.specs.Ids.{put, without};
-ghost use Rattle.end_model.specs.Tunnels.{Tunnel};
-ghost use Rattle.end_model.specs.End.{known_as, least_in};
 ghost use Rattle.tunnel_fsm.specs.Rows.{state_number};
-ghost use Rattle.tunnel_table.specs.Labels.{remote_label, state_label, remote_label_of, state_label_of, control_in, AreKept};
+ghost use Rattle.end_model.specs.Tunnels.{Tunnel};
+ghost use Rattle.end_model.specs.End.{known_as, least_in, recovered_by, answered_to, are_recovering};
+ghost use Rattle.tunnel_table.specs.Labels.{labels_of, labels_in, IsSmall, AreRelabelled, AreKept};
 
-use end_model::Control;
+use crate::labels::{
+    Labels, RECOVERING, answer_in, line_in, number_of, remote_in, remote_label, state_in,
+    state_label,
+};
 use id_index::Index;
 use std::alloc::Global;
+use std::marker::Model;
 use tunnel_fsm::TunnelState;
 use wire_base::NoMemory;
-
-/// The label of a peer with an id that it assigned.
-fn remote_label(peer: u32, remote: u16) -> u64
-    ensures { result ≡ remote_label peer remote }
-{
-    u64::from(peer) * 65_536 + u64::from(remote)
-}
-
-fn number_of(state: TunnelState) -> u8
-    ensures value { result ≡ state_number state }
-    ensures small { result < 8 }
-{
-    match state {
-        TunnelState::Idle => 0,
-        TunnelState::WaitCtlReply => 1,
-        TunnelState::WaitCtlConn => 2,
-        TunnelState::Established => 3,
-        TunnelState::Closed => 4,
-    }
-}
-
-/// The label of a peer with a state.
-fn state_label(peer: u32, state: TunnelState) -> u64
-    ensures { result ≡ state_label peer state }
-{
-    u64::from(peer) * 8 + u64::from(number_of(state))
-}
-
-fn remote_of(control: &Control) -> u64
-    ensures value { result ≡ remote_label_of control.now }
-    ensures small { control.now.remote < 65536 }
-{
-    remote_label(control.peer, control.remote)
-}
-
-fn state_of(control: &Control) -> u64
-    ensures { result ≡ state_label_of control.now }
-{
-    state_label(control.peer, control.state)
-}
-
-/// The labels of a tunnel that may be there.
-fn remote_before(before: Option<&Control>) -> Option<u64>
-    ensures { result ≡ option_map remote_label_of (option_copied before.entry) }
-{
-    Some(remote_of(before?))
-}
-
-fn state_before(before: Option<&Control>) -> Option<u64>
-    ensures { result ≡ option_map state_label_of (option_copied before.entry) }
-{
-    Some(state_of(before?))
-}
 
 /// The indexes of tunnels by local id.
 #[derive(Drop)]
@@ -73,58 +24,104 @@ pub(crate) struct Indexes {
     remotes: Index,
     /// By the peer and the state.
     states: Index,
+    /// By the local id of the recovery tunnel.
+    lines: Index,
+    /// By the peer and the id of the attempt that is answered.
+    answers: Index,
+}
+
+impl Model for Indexes {
+    ghost use Rattle.tunnel_table.specs.Labels.{Listings};
+
+    ghost Value = { Listings };
+
+    ghost view = { λ x. record { remotes = x.remotes; states = x.states; lines = x.lines; answers = x.answers } };
 }
 
 impl Indexes {
     /// There are no tunnels. It takes no memory.
     pub(crate) fn new(alloc: Global) -> Indexes
-        ensures { (ts : List (ℕ × Tunnel)) → ts ≡ [] → AreKept result.remotes result.states ts }
+        ensures { (ts : List (ℕ × Tunnel)) → ts ≡ [] → AreKept result ts }
     {
         Indexes {
             remotes: Index::new(alloc),
             states: Index::new(alloc),
+            lines: Index::new(alloc),
+            answers: Index::new(alloc),
         }
     }
 
-    /// Makes room for a tunnel that becomes this. The same tunnels are listed, also where memory is wanting.
-    pub(crate) fn make_keys(&mut self, id: u32, control: &Control) -> Result<(), NoMemory>
-        ensures { (ts : List (ℕ × Tunnel)) → AreKept self.old.remotes self.old.states ts → AreKept self.new.remotes self.new.states ts }
+    /// Makes room for a tunnel that gets these labels. The same tunnels are listed, also where memory is wanting.
+    pub(crate) fn make_keys(&mut self, id: u32, labels: &Labels) -> Result<(), NoMemory>
+        ensures { (ts : List (ℕ × Tunnel)) → AreKept self.old ts → AreKept self.new ts }
     {
-        self.remotes.make_key(id, Some(remote_of(control)))?;
-        self.states.make_key(id, Some(state_of(control)))
+        self.remotes.make_key(id, Some(labels.remote))?;
+        self.states.make_key(id, Some(labels.state))?;
+        self.lines.make_key(id, labels.line)?;
+        self.answers.make_key(id, labels.answer)
     }
 
-    /// Lists a tunnel as this, in place of what it was. It takes no memory where room was made for it.
-    pub(crate) fn list(&mut self, id: u32, before: Option<Control>, control: &Control)
-        ensures { (ts : List (ℕ × Tunnel)) (t : Tunnel) → AreKept self.old.remotes self.old.states ts → control_in ts id ≡ before → t.control ≡ control.now → AreKept self.new.remotes self.new.states (put ts id t) }
+    /// Lists a tunnel by these labels in place of those that it had. It takes no memory where room was made for it.
+    pub(crate) fn list(&mut self, id: u32, before: &Option<Labels>, after: &Labels)
+        ensures { (ts : List (ℕ × Tunnel)) (t : Tunnel) → AreKept self.old ts → labels_in ts id ≡ before.now → labels_of t ≡ after.now → IsSmall t → AreKept self.new (put ts id t) }
     {
-        let remote = remote_before(before.as_ref());
-        let state = state_before(before.as_ref());
-        self.remotes.relabel(id, remote, Some(remote_of(control)));
-        self.states.relabel(id, state, Some(state_of(control)));
+        let labels = Some(*after);
+        self.relabel(id, before, &labels);
     }
 
-    /// Lists a tunnel no more, which was this.
-    pub(crate) fn unlist(&mut self, id: u32, before: Option<Control>)
-        ensures { (ts : List (ℕ × Tunnel)) → AreKept self.old.remotes self.old.states ts → control_in ts id ≡ before → AreKept self.new.remotes self.new.states (without ts id) }
+    /// Lists a tunnel no more, which had these labels.
+    pub(crate) fn unlist(&mut self, id: u32, before: &Option<Labels>)
+        ensures { (ts : List (ℕ × Tunnel)) → AreKept self.old ts → labels_in ts id ≡ before.now → AreKept self.new (without ts id) }
     {
-        let remote = remote_before(before.as_ref());
-        let state = state_before(before.as_ref());
-        self.remotes.relabel(id, remote, None);
-        self.states.relabel(id, state, None);
+        self.relabel(id, before, &None);
+    }
+
+    fn relabel(&mut self, id: u32, before: &Option<Labels>, after: &Option<Labels>)
+        ensures { AreRelabelled self.old self.new id before.now after.now }
+    {
+        self.remotes
+            .relabel(id, remote_in(before), remote_in(after));
+        self.states.relabel(id, state_in(before), state_in(after));
+        self.lines.relabel(id, line_in(before), line_in(after));
+        self.answers
+            .relabel(id, answer_in(before), answer_in(after));
     }
 
     /// The least tunnel to a peer that has assigned this id, where the index tells it.
     pub(crate) fn first_known(&self, peer: u32, remote: u16) -> Option<Option<u32>>
-        ensures { IfSome result (λ o. (ts : List (ℕ × Tunnel)) → AreKept self.now.remotes self.now.states ts → known_as peer remote ts ≡ o) }
+        ensures { IfSome result (λ o. (ts : List (ℕ × Tunnel)) → AreKept self.now ts → known_as peer remote ts ≡ o) }
     {
         self.remotes.first(remote_label(peer, remote))
     }
 
-    /// The least tunnel to a peer that is in a state, where the index tells it.
+    /// The least current tunnel to a peer that is in a state, where the index tells it.
     pub(crate) fn first_in(&self, state: TunnelState, peer: u32) -> Option<Option<u32>>
-        ensures { IfSome result (λ o. (ts : List (ℕ × Tunnel)) → AreKept self.now.remotes self.now.states ts → least_in state peer ts ≡ o) }
+        ensures { IfSome result (λ o. (ts : List (ℕ × Tunnel)) → AreKept self.now ts → least_in state peer ts ≡ o) }
     {
-        self.states.first(state_label(peer, state))
+        self.states.first(state_label(peer, number_of(state)))
+    }
+
+    /// The tunnel whose recovery tunnel has this local id, where the index tells it.
+    pub(crate) fn first_recovered(&self, line: u16) -> Option<Option<u32>>
+        ensures { IfSome result (λ o. (ts : List (ℕ × Tunnel)) → AreKept self.now ts → recovered_by line ts ≡ o) }
+    {
+        self.lines.first(u64::from(line))
+    }
+
+    /// The tunnel whose end answers the attempt of a peer with this id, where the index tells it.
+    pub(crate) fn first_answered(&self, peer: u32, remote: u16) -> Option<Option<u32>>
+        ensures { IfSome result (λ o. (ts : List (ℕ × Tunnel)) → AreKept self.now ts → answered_to peer remote ts ≡ o) }
+    {
+        self.answers.first(remote_label(peer, remote))
+    }
+
+    /// Whether a tunnel to a peer is frozen or restored, where the index tells it.
+    pub(crate) fn has_recovering(&self, peer: u32) -> Option<bool>
+        ensures { IfSome result (λ b. (ts : List (ℕ × Tunnel)) → AreKept self.now ts → are_recovering peer ts ≡ b) }
+    {
+        match self.states.first(state_label(peer, RECOVERING)) {
+            None => None,
+            Some(found) => Some(found.is_some()),
+        }
     }
 }

@@ -1,6 +1,6 @@
 //! A table of tunnels with its indexes.
 
-ghost use Rattle.std.specs.Prelude.{ℕ, ◌≡◌, ◌≢◌, ◌==◌, ◌&&◌, [], List, find, length, is_some, option_map, IfOk, OnOk, IsSome, IsTrue};
+ghost use Rattle.std.specs.Prelude.{ℕ, ◌≡◌, ◌≢◌, [], List, length, is_some, IfOk, OnOk, IsSome, IsTrue};
 ghost use Rattle.std.specs.Option.{option_copied};
 ghost use Rattle.std.specs.List.Sorted.{IsStrictlySortedBy};
 ghost use Rattle.std.specs.Ordering.{nat_cmp};
@@ -8,22 +8,23 @@ ghost use Rattle.id_table.specs.Ids.{at, ids_of};
 ghost use Rattle.id_table.specs.Tables.{HasRoom};
 ghost use Rattle.end_model.specs.Tunnels.{Tunnel};
 ghost use Rattle.end_model.specs.Turn.{with_turn};
-ghost use Rattle.end_model.specs.End.{tunnels_after, is_known, known_as, is_in, least_in};
+ghost use Rattle.end_model.specs.End.{tunnels_after, is_known, known_as, is_in, least_in, has_line, recovered_by, is_answered, answered_to, is_recovering, are_recovering};
 ghost use Rattle.id_table.specs.Order.{Ascends};
 ghost use Rattle.std.specs.List.{AllByRecursion};
 ghost use Rattle.tunnel_timers.specs.Due.{IsEarly, IsNoLater, LeavesOut, due_at, earliest_at, tunnel_due};
-ghost use Rattle.tunnel_core.specs.Cores.{tunnel_of, made_of, IsTurn, HasRoomFor};
-ghost use Rattle.tunnel_fsm.specs.Rows.{state_number};
-ghost use Rattle.tunnel_table.specs.Labels.{control_in, AreKept};
+ghost use Rattle.tunnel_core.specs.Cores.{tunnel_of, made_of, HasId, IsTurn, HasRoomFor};
+ghost use Rattle.tunnel_table.specs.Labels.{labels_in, AreKept};
 ghost use Rattle.tunnel_table.specs.Plans.{turn_at, IsPlanned, IsGiven, HasPlace, after_plan};
 ghost use Rattle.tunnel_table.specs.Tunnels.{tunnels_of};
 
+use crate::finding::{first_answered, first_in, first_known, first_recovered, first_recovering};
 use crate::indexes::Indexes;
-use end_model::{Config, Control, Event, Role};
+use crate::labels::{Labels, are_same, labels_after, labels_of};
+use end_model::{Config, Role};
 use id_table::Table;
 use std::alloc::Global;
 use std::marker::Model;
-use tunnel_core::{Env, Planned, TunnelCore, same_state};
+use tunnel_core::{Env, Planned, Task, TunnelCore};
 use tunnel_fsm::TunnelState;
 use wire_base::{NoMemory, Sequence};
 
@@ -48,32 +49,30 @@ impl Model for TunnelTable {
 
     ghost view = { λ t. t.table };
 
-    ghost invariant = { λ t. AreKept t.indexes.remotes t.indexes.states (tunnels_of t.table.entries) × IsNoLater t.due (tunnels_due (tunnels_of t.table.entries)) };
+    ghost invariant = { λ t. AreKept t.indexes (tunnels_of t.table.entries) × IsNoLater t.due (tunnels_due (tunnels_of t.table.entries)) };
 }
 
-/// The tunnel with this id, apart from its calls.
+/// The labels of the tunnel with this id, if there is one.
 #[tactic(auto, using(crate::specs::Tunnels::at_tunnels))]
-fn control_at(table: &Table<TunnelCore>, id: u32) -> Option<Control>
-    ensures { result ≡ control_in (tunnels_of table.now.entries) id }
+fn labels_at(table: &Table<TunnelCore>, id: u32) -> Option<Labels>
+    ensures { result ≡ labels_in (tunnels_of table.now.entries) id }
 {
-    table.get(id).map(|core| *core.control())
+    table.get(id).map(labels_of)
 }
 
 /// Makes room in the indexes for what a tunnel becomes by a plan.
-fn make_keys(indexes: &mut Indexes, id: u32, planned: &Planned) -> Result<(), NoMemory>
-    ensures { (ts : List (ℕ × Tunnel)) → AreKept indexes.old.remotes indexes.old.states ts → AreKept indexes.new.remotes indexes.new.states ts }
+fn make_keys(
+    indexes: &mut Indexes,
+    id: u32,
+    core: &TunnelCore,
+    planned: &Planned,
+) -> Result<(), NoMemory>
+    ensures { (ts : List (ℕ × Tunnel)) → AreKept indexes.old ts → AreKept indexes.new ts }
 {
     if planned.clears() {
         return Ok(());
     }
-    indexes.make_keys(id, planned.control())
-}
-
-/// Whether a tunnel is found as before, so that it keeps its keys.
-fn keeps_keys(before: &Control, after: &Control) -> bool
-    ensures { result ≡ (before.now.remote == after.now.remote && state_number before.now.state == state_number after.now.state) }
-{
-    before.remote == after.remote && same_state(before.state, after.state)
+    indexes.make_keys(id, &labels_after(core, planned))
 }
 
 /// Plans a step of a tunnel, and makes room for what it changes, in the indexes too. What the tunnel stands for is as before.
@@ -84,17 +83,18 @@ fn plan_for(
     config: &Config,
     env: &mut Env,
     id: u32,
-    event: &Event,
+    task: &Task<'_>,
 ) -> Result<Planned, NoMemory>
+    requires { HasId task.now }
     ensures same { tunnel_of core.new ≡ tunnel_of core.old }
-    ensures planned { IfOk result (λ p. IsTurn p (turn_at role config.now event.now env.old (tunnel_of core.old))) }
+    ensures planned { IfOk result (λ p. IsTurn p core.old.recovery (turn_at role config.now task.now env.old (tunnel_of core.old))) }
     ensures room { IfOk result (λ p. HasRoomFor core.new p) }
-    ensures given { OnOk result (env.new ≡ with_turn (turn_at role config.now event.now env.old (tunnel_of core.old)) env.old) }
-    ensures kept { (ts : List (ℕ × Tunnel)) → AreKept indexes.old.remotes indexes.old.states ts → AreKept indexes.new.remotes indexes.new.states ts }
+    ensures given { OnOk result (env.new ≡ with_turn (turn_at role config.now task.now env.old (tunnel_of core.old)).turn env.old) }
+    ensures kept { (ts : List (ℕ × Tunnel)) → AreKept indexes.old ts → AreKept indexes.new ts }
 {
-    let planned = core.plan(role, config, env, event)?;
-    if !keeps_keys(core.control(), planned.control()) {
-        make_keys(indexes, id, &planned)?;
+    let planned = core.plan(role, config, env, task)?;
+    if !are_same(&labels_of(core), &labels_after(core, &planned)) {
+        make_keys(indexes, id, core, &planned)?;
     }
     Ok(planned)
 }
@@ -170,26 +170,27 @@ impl TunnelTable {
         self.due = earliest_due(&self.table, ids.as_slice());
     }
 
-    /// Plans a step of the tunnel with this id, and makes room for all that it changes. What the tunnels stand for is as before.
+    /// Plans a step of the tunnel with this id about this, and makes room for all that it changes. What the tunnels stand for is as before.
     pub fn plan(
         &mut self,
         role: Role,
         config: &Config,
         env: &mut Env,
         id: u32,
-        event: &Event,
+        task: &Task<'_>,
     ) -> Result<Planned, NoMemory>
-        requires { IsSome (at self.old.entries id) }
+        requires there { IsSome (at self.old.entries id) }
+        requires id { HasId task.now }
         ensures same { tunnels_of self.new.entries ≡ tunnels_of self.old.entries }
         ensures others { (q : ℕ) → q ≢ id → at self.new.entries q ≡ at self.old.entries q }
-        ensures planned { IfOk result (λ p. IsPlanned role config.now event.now env.old (at (tunnels_of self.old.entries) id) p) }
+        ensures planned { IfOk result (λ p. IsPlanned role config.now task.now env.old (at (tunnels_of self.old.entries) id) p) }
         ensures place { IfOk result (λ p. HasPlace self.new (id, p)) }
-        ensures given { OnOk result (IsGiven role config.now event.now env.old (at (tunnels_of self.old.entries) id) env.new) }
+        ensures given { OnOk result (IsGiven role config.now task.now env.old (at (tunnels_of self.old.entries) id) env.new) }
     {
         let Some(core) = self.table.get_mut(id) else {
             unreachable!()
         };
-        plan_for(core, &mut self.indexes, role, config, env, id, event)
+        plan_for(core, &mut self.indexes, role, config, env, id, task)
     }
 
     /// Makes what was planned for the tunnel with this id. It takes no memory.
@@ -198,26 +199,32 @@ impl TunnelTable {
         ensures made { tunnels_of self.new.entries ≡ after_plan (tunnels_of self.old.entries) (id, planned) (at (tunnels_of self.old.entries) id) }
         ensures others { (q : ℕ) → q ≢ id → at self.new.entries q ≡ at self.old.entries q }
     {
-        let before = control_at(&self.table, id);
+        let before = labels_at(&self.table, id);
         if planned.clears() {
-            self.indexes.unlist(id, before);
+            self.indexes.unlist(id, &before);
             self.table.remove(id);
             return;
         }
-        self.indexes.list(id, before, planned.control());
         let Some(core) = self.table.get_mut(id) else {
             unreachable!()
         };
+        let after = labels_after(core, &planned);
+        self.indexes.list(id, &before, &after);
         core.apply(planned);
         self.due = self.due.min(core.due());
     }
 
     /// Makes room for a tunnel that is new, for which this is planned. Where memory is wanting, the tunnels are as before.
-    pub fn make_room(&mut self, id: u32, planned: &Planned) -> Result<(), NoMemory>
+    pub fn make_room(
+        &mut self,
+        id: u32,
+        core: &TunnelCore,
+        planned: &Planned,
+    ) -> Result<(), NoMemory>
         ensures entries { self.new.entries ≡ self.old.entries }
         ensures made { OnOk result (HasRoom self.new id) }
     {
-        make_keys(&mut self.indexes, id, planned)?;
+        make_keys(&mut self.indexes, id, core, planned)?;
         self.table.make_room(id)
     }
 
@@ -228,13 +235,14 @@ impl TunnelTable {
         requires room { HasRoom self.old id }
         ensures { tunnels_of self.new.entries ≡ tunnels_after (tunnels_of self.old.entries) id planned.cleared (made_of planned (tunnel_of core)) }
     {
-        let before = control_at(&self.table, id);
+        let before = labels_at(&self.table, id);
         if planned.clears() {
-            self.indexes.unlist(id, before);
+            self.indexes.unlist(id, &before);
             self.table.remove(id);
             return;
         }
-        self.indexes.list(id, before, planned.control());
+        let after = labels_after(&core, &planned);
+        self.indexes.list(id, &before, &after);
         let mut core = core;
         core.apply(planned);
         self.due = self.due.min(core.due());
@@ -254,7 +262,7 @@ impl TunnelTable {
         Ok(first_known(&self.table, peer, remote, ids.as_slice()))
     }
 
-    /// The least tunnel to a peer that is in a state, as fast.
+    /// The least current tunnel to a peer that is in a state, as fast.
     #[tactic(auto, using(crate::specs::Tunnels::ids_tunnels), unfolding(end_model::specs::End::least_in))]
     pub fn least_in(
         &self,
@@ -270,36 +278,47 @@ impl TunnelTable {
         let ids = self.table.ids(alloc)?;
         Ok(first_in(&self.table, state, peer, ids.as_slice()))
     }
-}
 
-/// The first of these tunnels that goes to a peer which assigned this id.
-#[tactic(auto, using(crate::specs::Tunnels::at_tunnels))]
-fn first_known(table: &Table<TunnelCore>, peer: u32, remote: u16, ids: &[u32]) -> Option<u32>
-    ensures { result ≡ find (λ i. is_known peer remote (at (tunnels_of table.now.entries) i)) ids.now }
-{
-    for id in ids {
-        if let Some(control) = control_at(table, *id) {
-            if control.peer == peer && control.remote == remote {
-                return Some(*id);
-            }
+    /// The tunnel whose recovery tunnel has this local id, as fast.
+    #[tactic(auto, using(crate::specs::Tunnels::ids_tunnels), unfolding(end_model::specs::End::recovered_by))]
+    pub fn recovered_by(&self, alloc: Global, line: u16) -> Result<Option<u32>, NoMemory>
+        ensures { IfOk result (λ found. found ≡ recovered_by line (tunnels_of self.now.entries)) }
+    {
+        if let Some(id) = self.indexes.first_recovered(line) {
+            return Ok(id);
         }
+        let ids = self.table.ids(alloc)?;
+        Ok(first_recovered(&self.table, line, ids.as_slice()))
     }
-    None
-}
 
-/// The first of these tunnels that goes to a peer and is in a state.
-#[tactic(auto, using(crate::specs::Tunnels::at_tunnels))]
-fn first_in(table: &Table<TunnelCore>, state: TunnelState, peer: u32, ids: &[u32]) -> Option<u32>
-    ensures { result ≡ find (λ i. is_in state peer (at (tunnels_of table.now.entries) i)) ids.now }
-{
-    for id in ids {
-        if let Some(control) = control_at(table, *id) {
-            if same_state(control.state, state) && control.peer == peer {
-                return Some(*id);
-            }
+    /// The tunnel whose end answers the attempt of a peer with this id, as fast.
+    #[tactic(auto, using(crate::specs::Tunnels::ids_tunnels), unfolding(end_model::specs::End::answered_to))]
+    pub fn answered_to(
+        &self,
+        alloc: Global,
+        peer: u32,
+        remote: u16,
+    ) -> Result<Option<u32>, NoMemory>
+        ensures { IfOk result (λ found. found ≡ answered_to peer remote (tunnels_of self.now.entries)) }
+    {
+        if let Some(id) = self.indexes.first_answered(peer, remote) {
+            return Ok(id);
         }
+        let ids = self.table.ids(alloc)?;
+        Ok(first_answered(&self.table, peer, remote, ids.as_slice()))
     }
-    None
+
+    /// Whether a tunnel to a peer is frozen or restored, as fast.
+    #[tactic(auto, using(crate::specs::Tunnels::ids_tunnels), unfolding(end_model::specs::End::are_recovering))]
+    pub fn are_recovering(&self, alloc: Global, peer: u32) -> Result<bool, NoMemory>
+        ensures { IfOk result (λ found. found ≡ are_recovering peer (tunnels_of self.now.entries)) }
+    {
+        if let Some(found) = self.indexes.has_recovering(peer) {
+            return Ok(found);
+        }
+        let ids = self.table.ids(alloc)?;
+        Ok(first_recovering(&self.table, peer, ids.as_slice()).is_some())
+    }
 }
 
 /// Whether a tick does nothing for the tunnel with this id, as far as it is known.

@@ -4,7 +4,7 @@
 mod due;
 mod limits;
 
-pub use due::{call_due, channel_due};
+pub use due::{call_due, channel_due, recovery_due};
 pub use limits::{
-    PATIENCE, is_at_its_end, is_closed, is_open, is_over, is_quiet, is_set_up, is_up,
+    PATIENCE, is_at_its_end, is_closed, is_current, is_open, is_over, is_quiet, is_set_up, is_up,
 };

@@ -12,14 +12,16 @@ use Rattle.tunnel_fsm.specs.Rows.{state_number}
 use Rattle.call_fsm.specs.Words as call_words
 use Rattle.control_channel.specs.Numbers.{next_given}
 use Rattle.world_model.specs.declared.refusal.Refusal.{Refusal}
-use Rattle.world_model.specs.declared.refusal.Refusal.TheVariants.{Unfit, HalfSpace, StoreFull}
+use Rattle.world_model.specs.declared.refusal.Refusal.TheVariants.{Unfit, HalfSpace, Stale, StoreFull}
 use Rattle.end_model.specs.declared.tunnel.Call.{Call}
 use Rattle.end_model.specs.declared.tunnel.Control.{Control}
 use Rattle.end_names.specs.Names.{node_of}
 use Rattle.end_model.specs.Calls.{is_lac, is_up}
-use Rattle.end_model.specs.Tunnels.{Tunnel}
+use Rattle.end_model.specs.declared.tunnel.Mode.{Mode}
+use Rattle.end_model.specs.declared.tunnel.Mode.TheVariants.{Current, Frozen, Restored}
+use Rattle.end_model.specs.Tunnels.{Tunnel, mode_of, is_current}
 use Rattle.world_model.specs.Texts.{◌&◌, ended, Entry, entries_text}
-use Rattle.world_model.specs.World.{World, Node, Deed, Lined, empty_world, line, count_at}
+use Rattle.world_model.specs.World.{World, Node, Deed, Lined, empty_world, line, count_at, standing_in}
 
 -- a run, which ends at the first line that is refused
 pub record Run : Type 0 where
@@ -52,10 +54,15 @@ run lines = run_from 1 lines empty_run
 
 -- ---- the tables at the end
 
--- No tunnel outlives a crash, so each is in epoch 0, current, and complete.
-unfoldable pub tunnel_text : ℕ → Control → List ℕ
-tunnel_text n t =
-    ended (codes "end" & decimal n & codes "tunnel" & decimal t.local & decimal (node_of t.peer) & decimal t.remote & state_word t.state & codes "0 current complete")
+abbrev pub mode_word : Mode → List ℕ
+mode_word Current = codes "current"
+mode_word Frozen = codes "frozen"
+mode_word Restored = codes "restored"
+
+-- No end asks for its calls after a reset, so each tunnel is complete.
+unfoldable pub tunnel_text : ℕ → Control → ℕ → Mode → List ℕ
+tunnel_text n t epoch mode =
+    ended (codes "end" & decimal n & codes "tunnel" & decimal t.local & decimal (node_of t.peer) & decimal t.remote & state_word t.state & decimal epoch & mode_word mode & codes "complete")
 
 -- a call of a tunnel, with its birth
 unfoldable pub call_text : ℕ → ℕ → ℕ → Call → ℕ → List ℕ
@@ -70,9 +77,10 @@ call_line n i births session (Some c) = call_text n i session c (count_at births
 unfoldable pub call_table : ℕ → ℕ → List (ℕ × ℕ) → List (ℕ × Call) → List ℕ
 call_table n i births calls = flat_map (λ s. call_line n i births s (at calls s)) (ids_of calls)
 
-unfoldable pub tunnel_line : ℕ → List (ℕ × ℕ) → ℕ → Option Tunnel → List ℕ
-tunnel_line n births i None = []
-tunnel_line n births i (Some t) = tunnel_text n t.control ++ call_table n i births t.calls
+unfoldable pub tunnel_line : ℕ → Node → ℕ → Option Tunnel → List ℕ
+tunnel_line n node i None = []
+tunnel_line n node i (Some t) =
+    tunnel_text n t.control (standing_in (Some node) i).epoch (mode_of t.recovery) ++ call_table n i node.births t.calls
 
 -- a node that is down
 unfoldable pub down_text : ℕ → List ℕ
@@ -82,7 +90,7 @@ down_text n = ended (codes "end" & decimal n & codes "down")
 unfoldable pub node_table : ℕ → Option Node → List ℕ
 node_table n None = []
 node_table n (Some node) =
-    if node.up then flat_map (λ i. tunnel_line n node.births i (at node.end.tunnels i)) (ids_of node.end.tunnels) else down_text n
+    if node.up then flat_map (λ i. tunnel_line n node i (at node.end.tunnels i)) (ids_of node.end.tunnels) else down_text n
 
 -- those of each node, in the order of nodes and of local ids
 unfoldable pub end_table : List (ℕ × Node) → List ℕ
@@ -100,12 +108,22 @@ lns_tunnel i (Some node) = if is_lac node.end.role then None else at node.end.tu
 unfoldable pub partner_of : List (ℕ × Node) → Control → Option Tunnel
 partner_of nodes t = lns_tunnel t.remote (at nodes (node_of t.peer))
 
--- two tunnels that have learned each other, are established, and each took all that the other was given to send
+-- two tunnels that have learned each other, are established and in the same epoch, and each took all that the other was given to send
 unfoldable pub agree : ℕ → Control → Control → Bool
 agree n t u =
     is_established t.state && is_established u.state
     && u.remote == t.local && node_of u.peer == n
     && u.channel.inbox.taken == next_given t.channel && t.channel.inbox.taken == next_given u.channel
+
+-- a tunnel whose channel carries messages
+abbrev pub is_at_work : Tunnel → Bool
+is_at_work t = is_current (mode_of t.recovery)
+
+abbrev pub are_alike : List (ℕ × Node) → ℕ → Tunnel → Tunnel → Bool
+are_alike nodes n t u =
+    (is_at_work t && is_at_work u)
+    && ((standing_in (at nodes n) t.control.local).epoch == (standing_in (at nodes (node_of t.control.peer)) u.control.local).epoch
+    && agree n t.control u.control)
 
 abbrev pub is_session : Option Call → Bool
 is_session None = false
@@ -119,13 +137,13 @@ unfoldable pub agree_text : ℕ → Control → Control → ℕ → List ℕ
 agree_text n t u count =
     ended (codes "agree" & decimal n & decimal t.local & decimal (node_of t.peer) & decimal u.local & decimal count)
 
-unfoldable pub agree_with : ℕ → Tunnel → Option Tunnel → List ℕ
-agree_with n t None = []
-agree_with n t (Some u) = if agree n t.control u.control then agree_text n t.control u.control (session_count t.calls) else []
+unfoldable pub agree_with : List (ℕ × Node) → ℕ → Tunnel → Option Tunnel → List ℕ
+agree_with nodes n t None = []
+agree_with nodes n t (Some u) = if are_alike nodes n t u then agree_text n t.control u.control (session_count t.calls) else []
 
 unfoldable pub agree_line : List (ℕ × Node) → ℕ → Option Tunnel → List ℕ
 agree_line nodes n None = []
-agree_line nodes n (Some t) = agree_with n t (partner_of nodes t.control)
+agree_line nodes n (Some t) = agree_with nodes n t (partner_of nodes t.control)
 
 unfoldable pub node_agreements : List (ℕ × Node) → ℕ → Option Node → List ℕ
 node_agreements nodes n None = []
@@ -149,6 +167,11 @@ unfoldable pub half_space_text : ℕ → ℕ → ℕ → List ℕ
 half_space_text line number count =
     codes "half space line " ++ decimal line ++ codes ": number " ++ decimal number ++ codes ", at " ++ decimal count ++ codes "\n"
 
+-- the line, the epoch in which the packet was sent, and the one that the tunnel is in which it is for
+unfoldable pub stale_text : ℕ → ℕ → ℕ → List ℕ
+stale_text line sent own =
+    codes "stale line " ++ decimal line ++ codes ": packet epoch " ++ decimal sent ++ codes ", own epoch " ++ decimal own ++ codes "\n"
+
 -- how many records the node's checkpoint has
 unfoldable pub store_full_text : ℕ → List ℕ
 store_full_text records = codes "store full: " ++ decimal records ++ codes "\n"
@@ -156,6 +179,7 @@ store_full_text records = codes "store full: " ++ decimal records ++ codes "\n"
 unfoldable pub refusal_text : ℕ → Refusal → List ℕ
 refusal_text line (Unfit x) = unfit_text line x
 refusal_text line (HalfSpace number count) = half_space_text line number count
+refusal_text line (Stale sent own) = stale_text line sent own
 refusal_text line (StoreFull records) = store_full_text records
 
 -- the tables, or the text of the line that is refused

@@ -1,7 +1,7 @@
 -- The world: nodes, and every packet that was ever sent.
 use Rattle.std.specs.Prelude.{ℕ, ◌+◌, ◌-◌, ◌^◌, ◌==◌, min, List, [], ◌∷◌, ◌++◌, map, length, take, Bool, true, false, nat_lt, nat_le, if◌then◌else◌, slice_get, Option, Some, None, is_some, unwrap_or, Result, Ok, Err}
 use Rattle.byteorder.specs.Endian.{big_bytes}
-use Rattle.id_table.specs.Ids.{at, put, without}
+use Rattle.id_table.specs.Ids.{at, put, without, ids_of}
 use Rattle.wire_base.specs.declared.letter.Side.{Side}
 use Rattle.wire_base.specs.declared.letter.Side.TheVariants as side
 use Rattle.wire_base.specs.declared.why.Why.{Why}
@@ -30,10 +30,13 @@ use Rattle.end_model.specs.declared.moves.Move.TheVariants as move
 use Rattle.world_model.specs.declared.held.Held.{Held}
 use Rattle.world_model.specs.declared.packet.Packet.{Packet}
 use Rattle.world_model.specs.declared.stop.StopAt.{StopAt}
+use Rattle.world_model.specs.declared.standing.Counts.{Counts}
+use Rattle.world_model.specs.declared.standing.Standing.{Standing}
 use Rattle.world_model.specs.declared.refusal.Refusal.{Refusal}
-use Rattle.world_model.specs.declared.refusal.Refusal.TheVariants.{Unfit, HalfSpace, StoreFull}
+use Rattle.world_model.specs.declared.refusal.Refusal.TheVariants.{Unfit, HalfSpace, Stale, StoreFull}
 use Rattle.end_names.specs.Names.{address_of, node_of}
 use Rattle.end_model.specs.Calls.{is_lac}
+use Rattle.end_model.specs.Tunnels.{Tunnel}
 use Rattle.end_model.specs.End.{End, Stepped, reached, step, new_config, new_end, is_not_closed, look_in}
 use Rattle.end_model.specs.Contents.{contents_of}
 use Rattle.end_model.specs.Starting.{bare_end, starts, access_over}
@@ -51,6 +54,10 @@ pub record Checkpoint : Type 0 where
 abbrev pub new_checkpoint : Checkpoint
 new_checkpoint = record { records = 0; book = nothing_kept; stop = None }
 
+-- that of a tunnel of which nothing was counted yet
+abbrev pub no_standing : Standing
+no_standing = record { epoch = 0; made = 0; lost = None }
+
 -- An end, and whether it is up: one that is down has no tunnel. With it its clock, in milliseconds, the births of its calls by local
 -- session id, where it is a LAC what it keeps of hosts, and its checkpoint.
 pub record Node : Type 0 where
@@ -60,6 +67,10 @@ pub record Node : Type 0 where
   pub births : List (ℕ × ℕ)
   pub access : Option Access
   pub checkpoint : Checkpoint
+  -- by the local ids of tunnels
+  pub standings : List (ℕ × Standing)
+  -- the epoch that each answer to an attempt makes, by the answer's local id
+  pub answers : List (ℕ × ℕ)
 
 pub record World : Type 0 where
   -- by node number
@@ -90,6 +101,8 @@ pub record Deed : Type 0 where
   pub sender : Option Sender
   -- the birth of the call that the move is about, as the line leaves it; 0 where it is about none
   pub birth : ℕ
+  -- the epoch of the tunnel that the move is about, as the line leaves it; 0 where it is about none
+  pub epoch : ℕ
   pub move : Move
 
 -- what a line leads to: the next world, the entries of the report that it makes, what was done, in order, and whether its step was cut
@@ -131,10 +144,54 @@ with_birth w n session birth = with_birth_at w n session birth (at w.nodes n)
 unfoldable pub is_born : World → ℕ → ℕ → World
 is_born w n session = let birth = min (w.born + 1) (2 ^ 64 - 1) in with_birth (record w { born = birth }) n session birth
 
+-- ---- epochs
+
+abbrev pub standing_in : Option Node → ℕ → Standing
+standing_in None i = no_standing
+standing_in (Some node) i = unwrap_or (at node.standings i) no_standing
+
+unfoldable pub standing_of : World → ℕ → ℕ → Standing
+standing_of w n i = standing_in (at w.nodes n) i
+
+abbrev pub epoch_of : World → ℕ → ℕ → ℕ
+epoch_of w n i = (standing_of w n i).epoch
+
+abbrev pub with_standing_at : World → ℕ → ℕ → Standing → Option Node → World
+with_standing_at w n i x None = w
+with_standing_at w n i x (Some node) = with_node w n (record node { standings = put node.standings i x })
+
+unfoldable pub with_standing : World → ℕ → ℕ → Standing → World
+with_standing w n i x = with_standing_at w n i x (at w.nodes n)
+
+abbrev pub with_answer_at : World → ℕ → ℕ → ℕ → Option Node → World
+with_answer_at w n answer epoch None = w
+with_answer_at w n answer epoch (Some node) = with_node w n (record node { answers = put node.answers answer epoch })
+
+abbrev pub answer_in : Option Node → ℕ → ℕ
+answer_in None answer = 0
+answer_in (Some node) answer = count_at node.answers answer
+
+abbrev pub has_made : World → ℕ → ℕ → ℕ → World
+has_made w n i epoch = with_standing w n i (record (standing_of w n i) { made = epoch })
+
+-- an answer at a node makes the next epoch of the two tunnels, up to the last number of 64 bits
+unfoldable pub makes_epoch : World → ℕ → ℕ → ℕ → ℕ → ℕ → World
+makes_epoch w n i m j answer =
+    let epoch = min ((standing_of w n i).made + 1) (2 ^ 64 - 1) in
+    let v = has_made (has_made w n i epoch) m j epoch in
+    with_answer_at v n answer epoch (at v.nodes n)
+
+-- a tunnel enters an epoch: its channel is the one that counts
+unfoldable pub enters_epoch : World → ℕ → ℕ → ℕ → World
+enters_epoch w n i epoch = with_standing w n i (record (standing_of w n i) { epoch = epoch; lost = None })
+
 -- a call that is added is born; one that is made for a request has the birth of the call that the request names
 unfoldable pub moved : ℕ → World → Move → World
 moved n w (move.Added m) = is_born w n m.session
 moved n w (move.Replied m) = with_birth w n m.session (birth_of w (node_of m.peer) m.remote)
+moved n w (move.Froze m) = makes_epoch w n m.tunnel (node_of m.peer) m.remote m.answer
+moved n w (move.ResetAttempting m) = enters_epoch w n m.tunnel (answer_in (at w.nodes (node_of m.peer)) m.answer)
+moved n w (move.ResetAnswering m) = enters_epoch w n m.tunnel (answer_in (at w.nodes n) m.answer)
 moved n w m = w
 
 unfoldable pub moved_all : ℕ → List Move → World → World
@@ -157,12 +214,59 @@ session_of (move.FrameSent m) = Some m.session
 session_of (move.FrameUp m) = Some m.session
 session_of m = None
 
+-- the tunnel that a move is about, 0 where it is about none
+abbrev pub tunnel_of : Move → ℕ
+tunnel_of (move.Opened m) = m.tunnel
+tunnel_of (move.Accepted m) = m.tunnel
+tunnel_of (move.Connected m) = m.tunnel
+tunnel_of (move.Confirmed m) = m.tunnel
+tunnel_of (move.Added m) = m.tunnel
+tunnel_of (move.Requested m) = m.tunnel
+tunnel_of (move.Replied m) = m.tunnel
+tunnel_of (move.FirstUp m) = m.tunnel
+tunnel_of (move.SecondUp m) = m.tunnel
+tunnel_of (move.Refused m) = m.tunnel
+tunnel_of (move.EndTold m) = m.tunnel
+tunnel_of (move.EndHeard m) = m.tunnel
+tunnel_of (move.EndSilent m) = m.tunnel
+tunnel_of (move.Declined m) = 0
+tunnel_of (move.Closed m) = m.tunnel
+tunnel_of (move.Rejected m) = m.tunnel
+tunnel_of (move.ClosedBy m) = m.tunnel
+tunnel_of (move.Cleared i booked) = i
+tunnel_of (move.Greeted m) = m.tunnel
+tunnel_of (move.TookPlain m) = m.tunnel
+tunnel_of (move.NrRead m) = m.tunnel
+tunnel_of (move.LetGo m) = m.tunnel
+tunnel_of (move.Repeated m) = m.tunnel
+tunnel_of (move.Quiet i) = i
+tunnel_of (move.Negotiated m) = m.tunnel
+tunnel_of (move.Counted m) = m.tunnel
+tunnel_of (move.FrameSent m) = m.tunnel
+tunnel_of (move.FrameUp m) = m.tunnel
+tunnel_of (move.Restored m) = m.tunnel.local
+tunnel_of (move.Forgot m) = m.tunnel
+tunnel_of (move.Froze m) = m.tunnel
+tunnel_of (move.ResetAttempting m) = m.tunnel
+tunnel_of (move.ResetAnswering m) = m.tunnel
+tunnel_of (move.RecoveryWentOn i) = i
+tunnel_of (move.RecoveryEnded i) = i
+tunnel_of (move.Ignored i) = i
+
 abbrev pub birth_about : World → ℕ → Option ℕ → ℕ
 birth_about w n None = 0
 birth_about w n (Some session) = birth_of w n session
 
 abbrev pub deed_of : World → ℕ → ℕ → Role → Option Sender → Move → Deed
-deed_of w line n r sender m = record { line = line; node = n; role = r; sender = sender; birth = birth_about w n (session_of m); move = m }
+deed_of w line n r sender m = record {
+  line = line;
+  node = n;
+  role = r;
+  sender = sender;
+  birth = birth_about w n (session_of m);
+  epoch = epoch_of w n (tunnel_of m);
+  move = m;
+}
 
 -- the random bytes of a step: the node, and the line, in 8 bytes each
 unfoldable pub block_of : ℕ → ℕ → List ℕ
@@ -170,12 +274,18 @@ block_of n line = big_bytes 8 n ++ big_bytes 8 line
 
 -- ---- what a step gives to the outside
 
+-- the epoch of the tunnel that sends a control message
+abbrev pub epoch_sent : World → ℕ → Origin → ℕ
+epoch_sent w n (origin.Control o) = epoch_of w n o.tunnel
+epoch_sent w n (origin.Recovery tunnel number empty) = 0
+epoch_sent w n (origin.Data session) = 0
+
 -- a packet from a node to a node, these bytes, with what the world keeps beside them
-abbrev pub packet_from : ℕ → ℕ → List ℕ → Origin → Packet
-packet_from from to bytes origin = record { from = from; to = to; bytes = bytes; origin = origin }
+abbrev pub packet_from : ℕ → ℕ → List ℕ → Origin → ℕ → Packet
+packet_from from to bytes origin epoch = record { from = from; to = to; bytes = bytes; origin = origin; epoch = epoch }
 
 unfoldable pub sent : World → ℕ → ℕ → List ℕ → Origin → World
-sent w from to bytes origin = record w { packets = w.packets ++ packet_from from to bytes origin ∷ [] }
+sent w from to bytes origin = record w { packets = w.packets ++ packet_from from to bytes origin (epoch_sent w from origin) ∷ [] }
 
 -- an output of a node's step: what it does to the world, and the entry of the report that it makes in a line
 unfoldable pub shown : ℕ → World → Out → World
@@ -259,13 +369,26 @@ commits_by k rs (Some s) =
 unfoldable pub commits : Checkpoint → List Record → Committed
 commits k rs = if is_full k rs then IsFull k.records else commits_by k rs k.stop
 
--- a node falls: of its end only the checkpoint stays, and no stop is armed any more
-unfoldable pub fallen : List ℕ → Node → Checkpoint → Node
-fallen block node k = record node {
+-- what the channels of an end had counted, as its node goes down
+abbrev pub counts_of : Control → Counts
+counts_of c = record { taken = c.channel.inbox.taken; acked = c.channel.window.acked }
+
+abbrev pub lost_with : Option Tunnel → Standing → Standing
+lost_with None x = x
+lost_with (Some t) x = if is_some x.lost then x else record x { lost = Some (counts_of t.control) }
+
+unfoldable pub loses_counts : End → List ℕ → List (ℕ × Standing) → List (ℕ × Standing)
+loses_counts e [] xs = xs
+loses_counts e (i ∷ is) xs = loses_counts e is (put xs i (lost_with (at e.tunnels i) (unwrap_or (at xs i) no_standing)))
+
+-- a node falls: of its end, which was this before the step, only the checkpoint stays, and no stop is armed any more
+unfoldable pub fallen : List ℕ → End → Node → Checkpoint → Node
+fallen block before node k = record node {
   end = bare_end node.end.role node.end.config k.book;
   up = false;
   access = access_with node.end.role block;
   checkpoint = with_stop None k;
+  standings = loses_counts before (ids_of before.tunnels) node.standings;
 }
 
 -- no frame is held at a node any more
@@ -274,7 +397,7 @@ without_held w n = record w { held = without w.held n }
 
 unfoldable pub cut_line : World → ℕ → ℕ → Node → Checkpoint → Lined
 cut_line w line n node k = record {
-  world = without_held (with_node w n (fallen (block_of n line) node k)) n;
+  world = without_held (with_node w n (fallen (block_of n line) node.end node k)) n;
   entries = Stopped line n ∷ [];
   done = [];
   cut = true;
@@ -282,7 +405,7 @@ cut_line w line n node k = record {
 
 unfoldable pub settled : World → ℕ → ℕ → Node → Option Sender → Stepped → Committed → Result Lined Refusal
 settled w line n node sender s (IsFull records) = Err (StoreFull records)
-settled w line n node sender s (IsCut k) = Ok (cut_line w line n (record node { end = s.end }) k)
+settled w line n node sender s (IsCut k) = Ok (cut_line w line n node k)
 settled w line n node sender s (IsWhole k) = Ok (after_step w line n (record node { checkpoint = k }) sender s)
 
 -- a step of a node: all that it leaves is committed before anything of it is seen
@@ -339,6 +462,8 @@ new_node line n r lns secret hide = record {
   births = [];
   access = access_with r (block_of n line);
   checkpoint = new_checkpoint;
+  standings = [];
+  answers = [];
 }
 
 unfoldable pub added : World → ℕ → ℕ → Role → ℕ → Option (List ℕ) → Bool → Result Lined Refusal
@@ -403,20 +528,37 @@ arrival w (Some p) = addressee_of p (at w.nodes p.to)
 abbrev pub outlives : ℕ → ℕ → Bool
 outlives number count = nat_lt (number + 32767) count
 
--- a control message whose numbers have, by what the tunnel that it is for has taken and acknowledged
-unfoldable pub too_old : ControlOrigin → Option Control → Option Refusal
-too_old o None = None
-too_old o (Some c) =
-    if outlives o.ns c.channel.inbox.taken then Some (HalfSpace o.ns c.channel.inbox.taken)
-    else if outlives o.nr c.channel.window.acked then Some (HalfSpace o.nr c.channel.window.acked)
+-- what a tunnel has taken, and what was acknowledged, in its epoch: as its channel counts, or as the one did that was lost
+abbrev pub counts_now : Option Counts → Control → Counts
+counts_now (Some x) c = x
+counts_now None c = counts_of c
+
+abbrev pub outlived : ControlOrigin → Counts → Option Refusal
+outlived o x =
+    if outlives o.ns x.taken then Some (HalfSpace o.ns x.taken)
+    else if outlives o.nr x.acked then Some (HalfSpace o.nr x.acked)
     else None
 
-unfoldable pub refused_by : Packet → Node → Origin → Option Refusal
-refused_by p node (origin.Control o) = too_old o (reached node.end (address_of p.from) p.bytes)
-refused_by p node (origin.Data session) = None
+-- a control message that its tunnel sent in an earlier epoch than the tunnel is in that it is for; or in the same one, by what that has
+-- taken and acknowledged
+abbrev pub is_past : ℕ → ControlOrigin → Standing → Control → Option Refusal
+is_past epoch o x c =
+    if nat_lt epoch x.epoch then Some (Stale epoch x.epoch)
+    else if epoch == x.epoch then outlived o (counts_now x.lost c)
+    else None
+
+unfoldable pub too_old : ℕ → ControlOrigin → World → ℕ → Option Control → Option Refusal
+too_old epoch o w n None = None
+too_old epoch o w n (Some c) = is_past epoch o (standing_of w n c.local) c
+
+unfoldable pub refused_by : World → Packet → Node → Origin → Option Refusal
+refused_by w p node (origin.Control o) = too_old p.epoch o w p.to (reached node.end (address_of p.from) p.bytes)
+refused_by w p node (origin.Recovery tunnel number empty) = None
+refused_by w p node (origin.Data session) = None
 
 abbrev pub sender_of : ℕ → Origin → Option Sender
 sender_of from (origin.Control c) = Some (record { node = from; tunnel = c.tunnel })
+sender_of from (origin.Recovery tunnel number empty) = Some (record { node = from; tunnel = tunnel })
 sender_of from (origin.Data session) = None
 
 unfoldable pub arrives : World → ℕ → Packet → Node → Option Refusal → Result Lined Refusal
@@ -426,7 +568,7 @@ arrives w line p node None =
 
 unfoldable pub delivers_it : World → ℕ → Result (Packet × Node) Why → Result Lined Refusal
 delivers_it w line (Err x) = Err (Unfit x)
-delivers_it w line (Ok a) = arrives w line a.0 a.1 (refused_by a.0 a.1 a.0.origin)
+delivers_it w line (Ok a) = arrives w line a.0 a.1 (refused_by w a.0 a.1 a.0.origin)
 
 unfoldable pub delivers : World → ℕ → Option Packet → Result Lined Refusal
 delivers w line p = delivers_it w line (arrival w p)
@@ -492,6 +634,7 @@ hand_deed line n r f = record {
   role = r;
   sender = None;
   birth = f.birth;
+  epoch = 0;
   move = hand_move f;
 }
 
@@ -527,7 +670,7 @@ later milliseconds (Ok node) = Ok (record node { clock = min (node.clock + milli
 -- all but the checkpoint is lost
 unfoldable pub crashed : World → ℕ → ℕ → Result Node Why → Result Lined Refusal
 crashed w line n (Err x) = Err (Unfit x)
-crashed w line n (Ok node) = Ok (quiet_line (without_held (with_node w n (fallen (block_of n line) node node.checkpoint)) n))
+crashed w line n (Ok node) = Ok (quiet_line (without_held (with_node w n (fallen (block_of n line) node.end node node.checkpoint)) n))
 
 -- a stop is armed, in place of the one before
 unfoldable pub armed : World → ℕ → StopAt → Result Node Why → Result Lined Refusal
@@ -540,7 +683,7 @@ opened block node = record node { up = true; access = access_over node.end.role 
 
 unfoldable pub started : World → ℕ → ℕ → Result Node Why → Result Lined Refusal
 started w line n (Err x) = Err (Unfit x)
-started w line n (Ok node) = committed w line n (opened (block_of n line) node) None (starts node.end.role node.end.config node.checkpoint.book)
+started w line n (Ok node) = committed w line n (opened (block_of n line) node) None (starts node.end.role node.end.config node.checkpoint.book node.clock (block_of n line))
 
 -- what a line with its number leads to, or why it is refused
 unfoldable pub line : World → ℕ → Line → Result Lined Refusal

@@ -8,9 +8,11 @@
 mod held;
 mod packet;
 mod refusal;
+mod standing;
 mod stop;
 
 pub use held::Held;
 pub use packet::Packet;
 pub use refusal::Refusal;
+pub use standing::{Counts, Standing};
 pub use stop::StopAt;

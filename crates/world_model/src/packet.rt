@@ -12,4 +12,6 @@ pub struct Packet {
     pub to: u8,
     pub bytes: Bytes,
     pub origin: Origin,
+    /// The epoch in which its tunnel was as it sent it: 0 for what no tunnel sent, for a recovery tunnel's, and for data.
+    pub epoch: u64,
 }

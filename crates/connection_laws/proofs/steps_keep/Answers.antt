@@ -39,7 +39,7 @@ pub returns-clause-sound_in_tunnel : goal.returns-clause-sound_in_tunnel
 returns-clause-sound_in_tunnel c = none_is_faulty_in_tunnel c.laws_below.ensures.codecs
 
 pub returns-clause-lines : goal.returns-clause-lines
-returns-clause-lines c = lines_of_runs c.laws_below.ensures.codecs c.laws_below.ensures.chains c.laws_below.ensures.reads c.laws_below.ensures.classes
+returns-clause-lines c = let below = c.laws_below.ensures in lines_of_runs below.codecs below.chains below.starts below.reads below.classes
 
 pub returns-clause-begins : goal.returns-clause-begins
 returns-clause-begins c = begins

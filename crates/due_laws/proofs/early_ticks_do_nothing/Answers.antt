@@ -1,4 +1,4 @@
-use Rattle.due_laws.proofs.Quiet.{quiet_turn, quiet_calls}
+use Rattle.due_laws.proofs.Quiet.{quiet_turn, quiet_calls, quiet_recovery}
 use Rattle.due_laws.proofs.Skips.{left_out, quiet_end, quiet_step}
 use Rattle.due_laws.proofs.early_ticks_do_nothing.Goals as goal
 
@@ -7,6 +7,9 @@ returns-clause-turns c role letters calls t early = quiet_turn role letters t ca
 
 pub returns-clause-calls : goal.returns-clause-calls
 returns-clause-calls c role letters sessions calls t early = quiet_calls role letters t sessions calls early
+
+pub returns-clause-recoveries : goal.returns-clause-recoveries
+returns-clause-recoveries c = quiet_recovery
 
 pub returns-clause-tunnels : goal.returns-clause-tunnels
 returns-clause-tunnels c e ascend moment block ids left = left_out e moment block ascend ids left

@@ -16,6 +16,11 @@ returns-clause-headline g c = record {
       books = c.books_are_of_ends.ensures.nodes lines fits;
       records = c.records_are_in_place.ensures lines fits;
       ids = c.ids_are_above_ceilings.ensures lines fits;
+      restarts = c.tunnels_outlive_crashes.ensures lines fits;
+    };
+    next = record {
+      gone = c.sessions_go_once.ensures lines fits;
+      marks = c.marks_never_fall.ensures lines fits;
     };
   };
   of_calm = λ lines fits calm few. record {
@@ -32,6 +37,7 @@ returns-clause-headline g c = record {
       numbers = c.numbers_are_read.ensures lines fits calm few;
       asked = c.calls_are_asked_for_once.ensures lines fits calm;
       made = c.requests_are_taken_once.ensures lines fits calm few;
+      main = c.moves_are_main.ensures lines fits calm;
     };
   };
   of_texts = λ text lines within h.

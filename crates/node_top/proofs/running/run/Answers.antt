@@ -8,14 +8,14 @@ pub returns-clause-ran : goal.returns-clause-ran
 returns-clause-ran g c =
     ran_so g.D.Disk.holds g.D.Disk.reach g.D.Disk.calls_left g.D.Disk.faults (planned c.args.plan) c.give_and_serve.new.counts c.args.disk.now c.open.new.disk c.give_and_serve.new.disk
     (sunk (g.O.Sink.faults c.args.log.now) (g.O.Sink.taken c.args.log.now)) (sunk (g.O.Sink.faults c.open.new.log) (g.O.Sink.taken c.open.new.log)) (sunk (g.O.Sink.faults c.give_and_serve.new.log) (g.O.Sink.taken c.give_and_serve.new.log)) _ _
-    c.in-Ok.end c.give_and_serve.new.end c.in-Ok.outs c.config_of.result c.next_block-key.result _ _ c.config_of.ensures c.next_block-key.ensures c.now-moment.ensures.next
+    c.in-Ok.end c.give_and_serve.new.end c.in-Ok.outs c.config_of.result c.now-moment.result c.next_block-block.result _ _ c.started_counts-counts.result c.started_counts-counts.ensures c.config_of.ensures c.next_block-block.ensures c.now-moment.ensures.told c.now-moment.ensures.next
     c.in-Ok.ensures.opened c.in-Ok-give_and_serve.ensures.served
 
 pub returns-in-Err-give_and_serve-clause-ran : goal.returns-in-Err-give_and_serve-clause-ran
 returns-in-Err-give_and_serve-clause-ran g c =
     inr (broke_so g.D.Disk.holds g.D.Disk.reach g.D.Disk.calls_left g.D.Disk.faults (planned c.args.plan) c.in-Err-give_and_serve.exit c.give_and_serve.new.counts c.args.disk.now c.open.new.disk c.give_and_serve.new.disk
     (sunk (g.O.Sink.faults c.args.log.now) (g.O.Sink.taken c.args.log.now)) (sunk (g.O.Sink.faults c.open.new.log) (g.O.Sink.taken c.open.new.log)) (sunk (g.O.Sink.faults c.give_and_serve.new.log) (g.O.Sink.taken c.give_and_serve.new.log)) _ _
-    c.in-Ok.end c.give_and_serve.new.end c.in-Ok.outs c.config_of.result c.next_block-key.result _ _ c.config_of.ensures c.next_block-key.ensures c.now-moment.ensures.next
+    c.in-Ok.end c.give_and_serve.new.end c.in-Ok.outs c.config_of.result c.now-moment.result c.next_block-block.result _ _ c.started_counts-counts.result c.started_counts-counts.ensures c.config_of.ensures c.next_block-block.ensures c.now-moment.ensures.told c.now-moment.ensures.next
     c.in-Ok.ensures.opened c.in-Err-give_and_serve.ensures.short)
 
 pub returns-in-Err-give_and_serve-clause-grows : goal.returns-in-Err-give_and_serve-clause-grows

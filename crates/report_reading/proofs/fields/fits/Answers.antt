@@ -1,5 +1,4 @@
 use Rattle.std.proofs.Common.{◌∙◌, drop, length-drop, arith}
-use Rattle.report_reading.specs.declared.fields.Field.{Field}
 use Rattle.report_reading.proofs.FieldWords.{lacks_word}
 use Rattle.report_reading.proofs.fields.fits.Goals as goal
 

@@ -1,6 +1,6 @@
-use Rattle.std.proofs.Common.{sym, ◌∙◌, subst}
+use Rattle.std.proofs.Common.{sym, ◌∙◌}
 use Rattle.std.proofs.lemmas.Bool.{eqb-true}
-use Rattle.report_reading.proofs.Entries.{Stands, begins, stops, goes_on, is_done}
+use Rattle.report_reading.proofs.Entries.{begins, stops, goes_on, is_done}
 use Rattle.report_reading.proofs.reading.read_all.Goals as goal
 
 pub loop-rest-init : goal.loop-rest-init

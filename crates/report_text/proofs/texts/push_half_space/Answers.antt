@@ -1,5 +1,5 @@
 use Rattle.std.proofs.lemmas.Result.{on_ok_weaker}
-use Rattle.report_text.proofs.HalfSpaceText.{half_space_is}
+use Rattle.report_text.proofs.NumberedText.{half_space_is}
 use Rattle.report_text.proofs.texts.push_half_space.Goals as goal
 
 pub returns : goal.returns

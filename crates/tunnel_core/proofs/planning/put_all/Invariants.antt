@@ -1,7 +1,8 @@
 use Rattle.std.proofs.Common.{◌≡◌}
 use Rattle.std.specs.Vec.Iter.{into_iter_items}
 use Rattle.end_model.specs.Events.{with_calls}
-use Rattle.tunnel_core.specs.Cores.{AllHaveRoom, AllCallsReplay}
+use Rattle.tunnel_core.specs.Cores.{AllHaveRoom}
+use Rattle.tunnel_turn.specs.Changes.{AllCallsReplay}
 use Rattle.tunnel_core.proofs.planning.put_all.Given as goal
 
 abbrev pub invariant-loop-session : goal.invariant-loop-session

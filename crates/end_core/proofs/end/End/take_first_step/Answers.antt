@@ -4,10 +4,10 @@ use Rattle.session_book.specs.declared.record.Record.{Record}
 use Rattle.end_model.specs.Openings.{fresh}
 use Rattle.end_model.specs.Tunnels.{Tunnel, Env, new_tunnel}
 use Rattle.end_model.specs.End.{End, Stepped, env_of, in_new, placed, with_looks, tunnels_after}
-use Rattle.tunnel_core.specs.Cores.{Core, tunnel_of, made_of}
+use Rattle.tunnel_table.specs.Cores.{Core, tunnel_of, made_of}
 use Rattle.tunnel_table.specs.Tunnels.{tunnels_of}
 use Rattle.end_core.specs.contracts.end.End.{the_view as view_of}
-use Rattle.tunnel_core.specs.contracts.env.Env.{the_view as env_view_of}
+use Rattle.tunnel_turn.specs.contracts.env.Env.{the_view as env_view_of}
 use Rattle.end_core.proofs.Committed.{refused_by, first_records}
 use Rattle.end_core.proofs.Steps.{first_made, none_made}
 use Rattle.end_core.proofs.end.End.take_first_step.Goals as goal
@@ -36,7 +36,7 @@ returns-clause-made g c =
     c.make_first.ensures.tunnels some ∙ ap (λ (xs : List (ℕ × Core)). tunnels_after (tunnels_of xs) p.control.local p.cleared (made_of p (tunnel_of c.plan_first.new.core))) c.plan_first.ensures.tunnels ∙ ap (λ (t : Tunnel). tunnels_after v.tunnels p.control.local p.cleared (made_of p t)) c.plan_first.ensures.same in
     let places : c.make_first.new.places.entries ≡ with_looks c.env-2.inside.changes (placed p.control.local p.added c.self.inside.calls.entries) =
     c.make_first.ensures.places some ∙ rw (c.as_slice.ensures, c.plan_first.ensures.places) refl in
-    let s : Stepped = record { end = view_of (record { alloc = c.self.inside.alloc; role = c.self.inside.role; config = c.self.inside.config; tunnel_ids = c.env-2.inside.tunnels; session_ids = c.env-2.inside.sessions; recovery_ids = c.self.inside.recovery_ids; tunnels = c.make_first.new.tunnels; calls = c.make_first.new.places }); outputs = c.env-2.inside.outputs; moves = c.env-2.inside.moves } in
+    let s : Stepped = record { end = view_of (record { alloc = c.self.inside.alloc; role = c.self.inside.role; config = c.self.inside.config; tunnel_ids = c.env-2.inside.tunnels; session_ids = c.env-2.inside.sessions; recovery_ids = c.env-2.inside.recoveries; tunnels = c.make_first.new.tunnels; calls = c.make_first.new.places }); outputs = c.env-2.inside.outputs; moves = c.env-2.inside.moves } in
     let made : in_new v start c.args.event.now c.args.peer ≡ s =
     first_made v start (env_view_of c.env-2.inside) begun c.args.event.now c.args.peer (tunnel_of c.idle-core.result) idle p c.in_ok-planned.ensures.planned (c.env-2.view_is ∙ c.in_ok-planned.ensures.given) some s (record { end = rw (tunnels, places) refl; outputs = refl; moves = refl }) in
     subst (λ (x : End). in_new x start c.args.event.now c.args.peer ≡ s) c.self.view_is made ∙ ap (λ (x : Env). record { end = s.end; outputs = x.outputs; moves = x.moves }) c.env-2.view_is

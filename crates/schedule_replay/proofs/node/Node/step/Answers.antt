@@ -2,7 +2,7 @@ use Rattle.std.proofs.Common.{◌≡◌, Ok, Err, refl, subst}
 use Rattle.world_model.specs.World.{Node}
 use Rattle.schedule_replay.specs.declared.kinds.Moved.{Moved}
 use Rattle.schedule_replay.specs.Kinds.{site_in}
-use Rattle.schedule_replay.specs.Serving.{SiteStep, site_step, site_contents, IsAsBefore, MakesStep}
+use Rattle.schedule_replay.specs.Serving.{SiteStep, site_step, site_contents, site_commits, IsAsBefore, MakesStep}
 use Rattle.schedule_replay.specs.contracts.node.Node.{the_view as view_of}
 use Rattle.schedule_replay.proofs.Keeps.{site_keeps}
 use Rattle.schedule_replay.proofs.Nodes.{step_made, step_left, left_as_before, keeps_file}
@@ -24,7 +24,7 @@ returns-in-Err-clause-made c =
     let same : mid ≡ record w { up = w.up; checkpoint = c.step.new.ledger.known } = rw c.in-Err.ensures.given refl in
     subst (λ (n : Node). MakesStep (Err c.leave.result) c.args.block (site_step (site_in n) n.clock c.args.block c.args.event.now) n c.leave.new.self) c.self.view_is
     (step_left c.args.block w v c.self.inside.checkpoint c.step.new.ledger refl c.leave.result c.in-Err.fault w.up mid c.leave.new.self
-    (site_keeps (site_in w) w.clock c.args.block c.args.event.now) c.in-Err.ensures.committed same c.leave.ensures)
+    c.in-Err.ensures.committed same c.leave.ensures)
 
 pub returns-in-Err-clause-as_before : goal.returns-in-Err-clause-as_before
 returns-in-Err-clause-as_before c =
@@ -32,8 +32,11 @@ returns-in-Err-clause-as_before c =
     let v : SiteStep = site_step (site_in w) w.clock c.args.block c.args.event.now in
     let mid : Node = record w { end = c.step.new.self.end; access = c.step.new.self.access; checkpoint = c.step.new.ledger.known } in
     let same : mid ≡ record w { checkpoint = c.step.new.ledger.known } = rw c.in-Err.ensures.given refl in
-    subst (λ (n : Node). IsAsBefore {T = Moved} (Err c.leave.result) n c.leave.new.self) c.self.view_is
-    (left_as_before c.args.block w (site_contents (site_in w) v) c.self.inside.checkpoint c.step.new.ledger refl c.leave.result c.in-Err.fault mid c.leave.new.self c.in-Err.ensures.committed same c.leave.ensures)
+    subst
+    (λ (n : Node). IsAsBefore {T = Moved} (Err c.leave.result) (site_commits n (site_step (site_in n) n.clock c.args.block c.args.event.now)) n c.leave.new.self)
+    c.self.view_is
+    (left_as_before c.args.block w v c.self.inside.checkpoint c.step.new.ledger refl c.leave.result c.in-Err.fault mid c.leave.new.self
+    c.in-Err.ensures.committed same c.leave.ensures)
 
 pub invariant_of-self : goal.invariant_of-self
 invariant_of-self c =

@@ -21,9 +21,11 @@ returns c =
     let mid : Told = record told { world = record w { nodes = put w.nodes c.from.result y } } in
     let before : at w.nodes n ≡ Some x = ap (λ i. at w.nodes i) (sym c.from.ensures) ∙ sym c.in-Some-get_mut.ensures.value in
     let fits : start_unfit (at w.nodes n) ≡ None = subst (λ (t : Told). start_unfit (at t.world.nodes n) ≡ None) (sym c.self.view_is) (sym c.in_default.ensures) in
-    let v : SiteStep = site_start x.end.role x.end.config (block_of n line) x.checkpoint.book in
+    let v : SiteStep = site_start x.end.role x.end.config x.clock (block_of n line) x.checkpoint.book in
     let made : MakesStep c.start-made.result (block_of n line) v (record x { up = true }) y =
-    subst (λ (b : List ℕ). MakesStep c.start-made.result b (site_start x.end.role x.end.config b x.checkpoint.book) (record x { up = true }) y) c.block_of.ensures c.start-made.ensures.made in
+    subst
+    (λ (b : List ℕ). MakesStep c.start-made.result b (site_start x.end.role x.end.config x.clock b x.checkpoint.book) (record x { up = true }) y)
+    c.block_of.ensures c.start-made.ensures.made in
     let put_is : mid.world ≡ with_node w n y = ap (λ (i : ℕ). record w { nodes = put w.nodes i y }) c.from.ensures in
     let one = start_says c.show_made.result w line n x (at w.nodes n) told c.show_made.new.self before fits
     (made_says c.show_made.result c.start-made.result line n (record x { up = true }) y v told mid c.show_made.new.self made put_is refl refl c.show_made.ensures) in

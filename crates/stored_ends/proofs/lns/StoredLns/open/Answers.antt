@@ -11,18 +11,18 @@ pub returns-in-Ok-start-clause-opened : goal.returns-in-Ok-start-clause-opened
 returns-in-Ok-start-clause-opened g c =
     let e = c.in-Ok.ensures in
     let running = ap (λ (j : State). j.halted) e.journal in
-    lns_opened g.D.Disk.holds g.D.Disk.reach g.D.Disk.calls_left g.D.Disk.faults c.args.config c.args.disk.now c.open.new.disk c.start.new.disk c.in-Ok.store c.over-lns.result c.start.new.self c.in-Ok-start.given
+    lns_opened g.D.Disk.holds g.D.Disk.reach g.D.Disk.calls_left g.D.Disk.faults c.args.config c.args.moment c.args.block c.args.disk.now c.open.new.disk c.start.new.disk c.in-Ok.store c.over-lns.result c.start.new.self c.in-Ok-start.given
     (record { book = e.opens; kept = e.kept; unwritten = e.unwritten; unfailed = e.cause; running = running }) c.over-lns.ensures c.in-Ok-start.ensures.disk c.in-Ok-start.ensures.given
 
 pub returns-in-Err-start-clause-stops : goal.returns-in-Err-start-clause-stops
 returns-in-Err-start-clause-stops g c =
     let e = c.in-Ok.ensures in
     let running = ap (λ (j : State). j.halted) e.journal in
-    rw c.unstarted.ensures (lns_stops g.D.Disk.holds g.D.Disk.reach g.D.Disk.calls_left g.D.Disk.faults c.args.config c.args.disk.now c.open.new.disk c.start.new.disk c.in-Ok.store _ c.over-lns.result _ c.in-Err-start.stop
+    rw c.unstarted.ensures (lns_stops g.D.Disk.holds g.D.Disk.reach g.D.Disk.calls_left g.D.Disk.faults c.args.config c.args.moment c.args.block c.args.disk.now c.open.new.disk c.start.new.disk c.in-Ok.store _ c.over-lns.result _ c.in-Err-start.stop
     (record { book = e.opens; kept = e.kept; unwritten = e.unwritten; unfailed = e.cause; running = running }) c.over-lns.ensures c.in-Err-start.ensures.disk)
 
 pub returns-in-Err-clause-stops : goal.returns-in-Err-clause-stops
 returns-in-Err-clause-stops g c =
     let e = c.in-Err.ensures in
-    rw c.unopened.ensures (unopened_as g.D.Disk.holds g.D.Disk.reach g.D.Disk.calls_left g.D.Disk.faults 2 c.args.config.number (λ k. contents_of (bare_end Lns c.args.config k) (starts Lns c.args.config k)) c.args.disk.now c.open.new.disk
+    rw c.unopened.ensures (unopened_as g.D.Disk.holds g.D.Disk.reach g.D.Disk.calls_left g.D.Disk.faults 2 c.args.config.number (λ k. contents_of (bare_end Lns c.args.config k) (starts Lns c.args.config k c.args.moment c.args.block)) c.args.disk.now c.open.new.disk
     Stored (λ s. s.kept) c.in-Err.stop e.opens e.safe e.refused e.cause)

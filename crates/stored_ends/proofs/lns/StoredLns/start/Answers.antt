@@ -13,6 +13,6 @@ returns-then-is_halted-clause-disk g c =
 pub returns-clause-disk : goal.returns-clause-disk
 returns-clause-disk g c =
     let store = ap (λ (s : LnsStored). s.store) c.self.view_is in
-    let records = ap (λ (s : LnsStored). contents_of s.lns (starts s.lns.role s.lns.config s.store.kept)) c.self.view_is in
+    let records = ap (λ (s : LnsStored). contents_of s.lns (starts s.lns.role s.lns.config s.store.kept c.args.moment c.args.block)) c.self.view_is in
     let running : c.args.self.now.store.journal.halted ≡ false = ap (λ (s : LnsStored). s.store.journal.halted) (sym c.self.view_is) ∙ sym c.is_halted.ensures ∙ c.if-is_halted.false in
     lent_step_of g.D.Disk.holds g.D.Disk.reach g.D.Disk.calls_left g.D.Disk.faults _ c.start.result c.stops_of.result _ c.args.self.now.store _ c.start.new.ledger _ c.start.ensures.committed (search rules) records store running c.requires c.stops_of.ensures

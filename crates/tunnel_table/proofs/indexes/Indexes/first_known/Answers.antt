@@ -1,9 +1,9 @@
-use Rattle.std.proofs.Common.{◌≡◌, ℕ, List, Option, subst}
+use Rattle.std.proofs.Common.{◌≡◌, ℕ, List, Option, sym, subst}
 use Rattle.std.specs.Prelude.{None, Some, IfSome}
 use Rattle.id_index.specs.Indexes.{Lists, IsFirst}
 use Rattle.end_model.specs.Tunnels.{Tunnel}
 use Rattle.end_model.specs.End.{known_as}
-use Rattle.tunnel_table.specs.Labels.{AreKept}
+use Rattle.tunnel_table.specs.Labels.{Listings, AreKept}
 use Rattle.tunnel_table.proofs.Listing.{first_known}
 use Rattle.tunnel_table.proofs.indexes.Indexes.first_known.Goals as goal
 
@@ -11,9 +11,9 @@ pub returns : goal.returns
 returns c = by c.first.result c.first.ensures
   where
     by : (found : Option (Option ℕ))
-        → IfSome found (λ o. (labels : ℕ → Option ℕ) → Lists c.args.self.now.remotes labels → IsFirst labels c.remote_label.result o)
-        → IfSome found (λ o. (ts : List (ℕ × Tunnel)) → AreKept c.args.self.now.remotes c.args.self.now.states ts → known_as c.args.peer c.args.remote ts ≡ o)
+        → IfSome found (λ o. (labels : ℕ → Option ℕ) → Lists c.self.inside.remotes labels → IsFirst labels c.remote_label.result o)
+        → IfSome found (λ o. (ts : List (ℕ × Tunnel)) → AreKept c.args.self.now ts → known_as c.args.peer c.args.remote ts ≡ o)
     by None h = h
     by (Some o) h = λ ts kept.
-        first_known c.args.self.now.remotes c.args.self.now.states ts c.args.peer c.args.remote o c.ranges.remote.fits
-        (λ labels lists. subst (λ l. IsFirst labels l o) c.remote_label.ensures (h labels lists)) kept
+        first_known c.args.self.now ts c.args.peer c.args.remote o c.ranges.remote.fits
+        (λ labels lists. subst (λ l. IsFirst labels l o) c.remote_label.ensures (h labels (subst (λ (x : Listings). Lists x.remotes labels) (sym c.self.view_is) lists))) kept

@@ -2,4 +2,6 @@ use Rattle.tunnel_table.proofs.Listing.{kept_empty}
 use Rattle.tunnel_table.proofs.indexes.Indexes.new.Goals as goal
 
 pub returns : goal.returns
-returns c = kept_empty c.new.result c.new-2.result c.new.ensures c.new-2.ensures
+returns c =
+    kept_empty (record { remotes = c.new.result; states = c.new-2.result; lines = c.new-3.result; answers = c.new-4.result })
+    c.new.ensures c.new-2.ensures c.new-3.ensures c.new-4.ensures

@@ -1,13 +1,6 @@
-use Rattle.std.proofs.Common.{ap, ◌∙◌}
-use Rattle.std.specs.Prelude.{option_map}
-use Rattle.tunnel_table.specs.Labels.{remote_label_of, state_label_of}
-use Rattle.tunnel_table.proofs.Listing.{unlabelled_as, kept_without}
+use Rattle.std.specs.Prelude.{None}
+use Rattle.tunnel_table.proofs.Listing.{kept_without}
 use Rattle.tunnel_table.proofs.indexes.Indexes.unlist.Goals as goal
 
 pub returns : goal.returns
-returns c ts kept was =
-    kept_without c.args.self.now.remotes c.args.self.now.states c.relabel.new.self c.relabel-2.new.self ts c.args.id c.args.before c.ranges.id.fits was
-    (unlabelled_as c.args.self.now.remotes c.relabel.new.self c.args.id c.remote_before-remote.result (option_map remote_label_of c.args.before)
-    (c.remote_before-remote.ensures ∙ ap (option_map remote_label_of) c.as_ref.ensures.value) c.relabel.ensures)
-    (unlabelled_as c.args.self.now.states c.relabel-2.new.self c.args.id c.state_before-state.result (option_map state_label_of c.args.before)
-    (c.state_before-state.ensures ∙ ap (option_map state_label_of) c.as_ref-2.ensures.value) c.relabel-2.ensures) kept
+returns c ts kept was = kept_without c.args.self.now c.relabel.new.self ts c.args.id c.args.before.now c.ranges.id.fits was c.relabel.ensures kept

@@ -6,7 +6,7 @@ use Rattle.end_model.specs.Tunnels.{Tunnel}
 use Rattle.tunnel_timers.specs.Due.{IsNoLater, tunnels_due}
 use Rattle.tunnel_timers.specs.Bounds.{tunnels_without}
 use Rattle.tunnel_core.specs.Cores.{Core, tunnel_of}
-use Rattle.tunnel_table.specs.Labels.{AreKept}
+use Rattle.tunnel_table.specs.Labels.{labels_of, IsSmall, AreKept}
 use Rattle.tunnel_table.specs.Plans.{after_plan}
 use Rattle.tunnel_table.specs.Tunnels.{tunnels_of, without_tunnels}
 use Rattle.tunnel_table.proofs.Waiting.{made_due}
@@ -17,7 +17,7 @@ pub invariant_of-self : goal.invariant_of-self
 invariant_of-self c =
     let es = c.self.inside.table.entries in
     let same = ap tunnels_of c.remove.ensures.removed ∙ without_tunnels es c.args.id in (
-      subst (λ ts. AreKept c.unlist.new.self.remotes c.unlist.new.self.states ts) (sym same) (c.unlist.ensures (tunnels_of es) c.self.invariant.0 (sym c.control_at-before.ensures)),
+      subst (λ ts. AreKept c.unlist.new.self ts) (sym same) (c.unlist.ensures (tunnels_of es) c.self.invariant.0 (sym c.labels_at-before.ensures)),
       subst (λ ts. IsNoLater c.self.inside.due (tunnels_due ts)) (sym same) (tunnels_without c.self.inside.due (tunnels_of es) c.args.id c.self.invariant.1),
     )
 
@@ -35,9 +35,10 @@ pub invariant_of-self-2 : goal.invariant_of-self-2
 invariant_of-self-2 c =
     let es = c.self.inside.table.entries in
     let same = put_changed es _ c.args.id c.apply.new.self refl in (
-      subst (λ ts. AreKept c.list.new.self.remotes c.list.new.self.states ts) (sym same)
-          (c.list.ensures (tunnels_of es) (tunnel_of c.apply.new.self) c.self.invariant.0 (sym c.control_at-before.ensures)
-          (ap (λ (t : Tunnel). t.control) c.apply.ensures ∙ sym c.control.ensures)),
+      subst (λ ts. AreKept c.list.new.self ts) (sym same)
+          (c.list.ensures (tunnels_of es) (tunnel_of c.apply.new.self) c.self.invariant.0 (sym c.labels_at-before.ensures)
+          (ap labels_of c.apply.ensures ∙ sym c.labels_after-after.ensures.value)
+          (subst (λ (t : Tunnel). IsSmall t) (sym c.apply.ensures) c.labels_after-after.ensures.small)),
       made_due c.self.inside.due c.due.result c.min-self-inside.result es _ c.args.id c.apply.new.self same c.min-self-inside.ensures c.due.ensures c.self.invariant.1,
     )
 

@@ -16,7 +16,7 @@ pub invariant_of-self : goal.invariant_of-self
 invariant_of-self c =
     let es = c.self.inside.table.entries in
     let same = put_same es _ c.args.id c.plan_for.new.core refl c.self.invariant.0.ascend c.in-Some.core.now (sym c.in-Some.ensures.value) c.plan_for.ensures.same in (
-      subst (λ ts. AreKept c.plan_for.new.indexes.remotes c.plan_for.new.indexes.states ts) (sym same) (c.plan_for.ensures.kept (tunnels_of es) c.self.invariant.0),
+      subst (λ ts. AreKept c.plan_for.new.indexes ts) (sym same) (c.plan_for.ensures.kept (tunnels_of es) c.self.invariant.0),
       subst (λ ts. IsNoLater c.self.inside.due (tunnels_due ts)) (sym same) c.self.invariant.1,
     )
 
@@ -35,7 +35,7 @@ returns-clause-planned c =
     let is : at (tunnels_of c.args.self.now.entries) c.args.id ≡ Some (tunnel_of c.in-Some.core.now) =
     ap (λ (k : Kept Core). at (tunnels_of k.entries) c.args.id) (sym c.self.view_is) ∙ at_tunnels c.self.inside.table.entries c.args.id ∙ ap (λ o. option_map tunnel_of o) (sym c.in-Some.ensures.value) in
     IfOk-weaker c.plan_for.result _ _
-    (λ p h. subst (λ o. IsPlanned c.args.role c.args.config.now c.args.event.now c.args.env.now o p) (sym is) h) c.plan_for.ensures.planned
+    (λ p h. subst (λ o. IsPlanned c.args.role c.args.config.now c.args.task.now c.args.env.now o p) (sym is) h) c.plan_for.ensures.planned
 
 pub returns-clause-place : goal.returns-clause-place
 returns-clause-place c =
@@ -48,4 +48,4 @@ returns-clause-given c =
     let is : at (tunnels_of c.args.self.now.entries) c.args.id ≡ Some (tunnel_of c.in-Some.core.now) =
     ap (λ (k : Kept Core). at (tunnels_of k.entries) c.args.id) (sym c.self.view_is) ∙ at_tunnels c.self.inside.table.entries c.args.id ∙ ap (λ o. option_map tunnel_of o) (sym c.in-Some.ensures.value) in
     on_ok_weaker c.plan_for.result
-    (λ h. subst (λ o. IsGiven c.args.role c.args.config.now c.args.event.now c.args.env.now o c.plan_for.new.env) (sym is) h) c.plan_for.ensures.given
+    (λ h. subst (λ o. IsGiven c.args.role c.args.config.now c.args.task.now c.args.env.now o c.plan_for.new.env) (sym is) h) c.plan_for.ensures.given

@@ -1,0 +1,9 @@
+mod Alike
+mod Nodes
+mod Gone
+mod Established
+mod Marks
+mod Closed
+mod Epochs
+mod Crashes
+mod Joining

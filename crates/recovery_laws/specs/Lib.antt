@@ -1,0 +1,5 @@
+pub mod Gone
+pub mod Marks
+pub mod Joined
+pub mod Epochs
+pub mod Standing

@@ -1,0 +1,44 @@
+-- A start over a book is a chain of moves too: each tunnel that was kept comes back or is forgotten, and the links of its calls are opened.
+use Rattle.std.specs.Prelude.{ℕ, List, ◌≡◌, None}
+use Rattle.session_book.specs.Books.{Kept}
+use Rattle.session_book.specs.Spelling.{IsWhole}
+use Rattle.end_names.specs.declared.role.Role.{Role}
+use Rattle.end_model.specs.declared.tunnel.Config.{Config}
+use Rattle.end_model.specs.declared.event.Event.{Event}
+use Rattle.end_model.specs.Starting.{bare_end, starts}
+use Rattle.step_laws.specs.Steps.{IsChain}
+use Rattle.step_laws.specs.Looks.{LooksAreTrue}
+use Rattle.end_model.specs.End.{End, Stepped}
+use Rattle.step_laws.specs.Left.{AreFew, AreSound, AreAsked}
+use Rattle.std.specs.List.{AllPairs}
+use Rattle.id_table.specs.Ids.{at}
+use Rattle.session_book.specs.declared.record.BookCall.{BookCall}
+use Rattle.step_laws.specs.Gone.{gone_in}
+use Rattle.step_laws.specs.Letters.{Among}
+
+-- over a whole book; no event is part of a start: it is a chain whatever comes then
+abbrev pub StartsAreChains : Type 0
+StartsAreChains =
+    (r : Role) (c : Config) (k : Kept) → IsWhole k → (moment : ℕ) (block : List ℕ) (ev : Event) → IsChain (bare_end r c k) moment ev (starts r c k moment block)
+
+-- what the data plane sees of each session is so then
+abbrev pub StartsLookTrue : Type 0
+StartsLookTrue = (r : Role) (c : Config) (k : Kept) → IsWhole k → (moment : ℕ) (block : List ℕ) → LooksAreTrue (starts r c k moment block).end
+
+-- so many tunnels and such calls are there as there may be, and no call waits for its tunnel
+pub record AreAllowed (e : End) : Type 0 where
+  pub few : AreFew e
+  pub sound : AreSound e
+  pub asked : AreAsked e
+
+abbrev pub StartsAreAllowed : Type 0
+StartsAreAllowed = (r : Role) (c : Config) (k : Kept) → IsWhole k → (moment : ℕ) (block : List ℕ) → AreAllowed (starts r c k moment block).end
+
+-- what a start tells as gone: no session twice, and each that of a call of the book, which has no place then
+pub record TellsForgotten (k : Kept) (s : Stepped) : Type 0 where
+  pub once : AllPairs (λ before after. before ≡ after → ⊥) (gone_in s.outputs)
+  pub had : (q : ℕ) → Among q (gone_in s.outputs) → (c : BookCall) × (Among c k.calls × (q ≡ c.local))
+  pub left : (q : ℕ) → Among q (gone_in s.outputs) → at s.end.calls q ≡ None
+
+abbrev pub StartsTellForgotten : Type 0
+StartsTellForgotten = (r : Role) (c : Config) (k : Kept) → IsWhole k → (moment : ℕ) (block : List ℕ) → TellsForgotten k (starts r c k moment block)
