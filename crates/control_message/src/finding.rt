@@ -5,7 +5,7 @@ ghost use Rattle.control_message.specs.Grammar.{HasPlainShort, HasNoPlainShort};
 ghost use Rattle.control_message.specs.Reading.{is_listed, is_recognised, is_at, is_draw, is_vector, first, first_draw, number_in, is_plain_short, plain_short};
 
 use crate::attribute::{
-    ASSIGNED_SESSION, ASSIGNED_TUNNEL, DRAW_NUMBER, DRAW_VENDOR, RANDOM_VECTOR,
+    ASSIGNED_SESSION, ASSIGNED_TUNNEL, DRAW_NUMBER, DRAW_VENDOR, RANDOM_VECTOR, RECOVERY,
 };
 use crate::message::MessageError;
 use avp_codec::{AvpRef, LentAvps};
@@ -84,6 +84,13 @@ pub fn has_avp(avps: &LentAvps<'_>, attribute: u16) -> bool
     ensures { result ≡ is_some (first attribute avps.now) }
 {
     find_avp(avps, attribute).is_some()
+}
+
+/// Whether a Tunnel Recovery is there, by which an SCCRQ asks for the recovery of a tunnel (RFC 4951 section 5.2), whatever it says.
+pub fn has_recovery(avps: &LentAvps<'_>) -> bool
+    ensures { result ≡ is_some (first RECOVERY avps.now) }
+{
+    has_avp(avps, RECOVERY)
 }
 
 /// The number that a value of two bytes is.

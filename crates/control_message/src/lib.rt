@@ -10,7 +10,7 @@ mod reading;
 mod uncovering;
 mod writing;
 
-pub use finding::{assigned_session, assigned_tunnel};
+pub use finding::{assigned_session, assigned_tunnel, has_recovery};
 pub use kind::{Kind, Kinds};
 pub use message::{Failover, Message, MessageError, Opening, Read, Recovery, Suggested};
 pub use reading::{kind_of_pairs, read_message, reads_what_was_written};

@@ -8,7 +8,8 @@ ghost use Rattle.end_model.specs.Reading.{at_zero, zero_faulty, zero_pairs, zero
 
 use avp_codec::{AvpError, LentAvps};
 use control_message::{
-    Kind, Kinds, Message, MessageError, Read, assigned_tunnel, kind_of_pairs, read_message,
+    Kind, Kinds, Message, MessageError, Read, assigned_tunnel, has_recovery, kind_of_pairs,
+    read_message,
 };
 use end_model::Addressee;
 use l2tp_datagram::Body;
@@ -45,8 +46,8 @@ fn zero_known(message: &Message) -> Addressee
     }
 }
 
-/// What one is for that has a fault, by its kind and by the tunnel id that its pairs tell.
-fn zero_faulty(avps: &LentAvps<'_>) -> Addressee
+/// What one is for by its kind and by the tunnel id that its pairs tell, as where it has a fault.
+fn zero_by_kind(avps: &LentAvps<'_>) -> Addressee
     ensures { result ≡ zero_faulty (kind_of_pairs avps.now) avps.now }
 {
     match kind_of_pairs(avps, Kinds::Base) {
@@ -63,17 +64,29 @@ fn zero_faulty(avps: &LentAvps<'_>) -> Addressee
     }
 }
 
-/// What pairs at tunnel 0 are for.
+/// What pairs at tunnel 0 are for, by the whole message.
 #[tactic(auto, unfolding(end_model::specs::Reading::zero_pairs, end_model::specs::Reading::zero_read))]
-fn zero_pairs(alloc: Global, avps: &LentAvps<'_>) -> Result<Addressee, NoMemory>
+fn zero_whole(alloc: Global, avps: &LentAvps<'_>) -> Result<Addressee, NoMemory>
     ensures { IfOk result (λ to. to ≡ zero_pairs (Ok avps.now)) }
 {
     match read_message(alloc, avps, None, Kinds::Base) {
         Ok(Read::Known(message)) => Ok(zero_known(&message)),
         Ok(Read::Ignored { .. }) => Ok(Addressee::Nobody { why: Why::Tunnel }),
         Err(MessageError::NoMemory) => Err(NoMemory),
-        Err(_) => Ok(zero_faulty(avps)),
+        Err(_) => Ok(zero_by_kind(avps)),
     }
+}
+
+/// What pairs at tunnel 0 are for. Only where they ask for a recovery the whole message is read, since one that has a fault asks for
+/// none; else it is told by their kind and by the tunnel id that they tell.
+#[tactic(auto, using(crate::proofs::Tunnels::zero_is), unfolding(end_model::specs::Reading::zero_pairs))]
+fn zero_pairs(alloc: Global, avps: &LentAvps<'_>) -> Result<Addressee, NoMemory>
+    ensures { IfOk result (λ to. to ≡ zero_pairs (Ok avps.now)) }
+{
+    if has_recovery(avps) {
+        return zero_whole(alloc, avps);
+    }
+    Ok(zero_by_kind(avps))
 }
 
 /// What a control message at tunnel 0 is for (RFC 2661 section 3.1: its sender doesn't know the other end's id yet).

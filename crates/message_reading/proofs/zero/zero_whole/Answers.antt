@@ -2,7 +2,7 @@ use Rattle.std.proofs.Common.{◌≡◌, Ok, ap, sym, ◌∙◌, rules}
 use Rattle.control_message.specs.declared.message.Read.{Read}
 use Rattle.control_message.specs.Reading.{message_of}
 use Rattle.end_model.specs.Reading.{zero_pairs, zero_read}
-use Rattle.message_reading.proofs.zero.zero_pairs.Goals as goal
+use Rattle.message_reading.proofs.zero.zero_whole.Goals as goal
 
 pub returns-in-Ok-Known : goal.returns-in-Ok-Known
 unfolding zero_pairs
