@@ -4,6 +4,7 @@
 //! changes takes no memory. So where memory is wanting, the tunnel is as before.
 #![tactic(auto)]
 
+mod becoming;
 mod events;
 mod faulty;
 mod hearing;

@@ -14,6 +14,7 @@ ghost use Rattle.tunnel_calls.specs.Telling.{rows_of, pairs_of, RowsLead};
 ghost use Rattle.tunnel_turn.specs.Changes.{AllCallsReplay};
 ghost use Rattle.tunnel_core.specs.Cores.{tunnel_of, made_of, recovery_after, task_turn, beside, HasId, AllHaveRoom, HasRoomFor, IsTurn};
 
+use crate::becoming::Becomes;
 use crate::hearing::hear_opening;
 use crate::task::Task;
 use crate::tasks::run_task;
@@ -42,7 +43,7 @@ pub struct Planned {
     /// The turn that the step is. It is handed on through some calls, so that it stands in a box.
     turn: Box<Turn>,
     /// What the recovery tunnel becomes, where the step is about that.
-    recovery: Option<Option<Recovering>>,
+    recovery: Option<Becomes>,
 }
 
 impl Model for Planned {
@@ -81,7 +82,7 @@ impl Planned {
     {
         match &self.recovery {
             None => None,
-            Some(after) => Some(after.as_ref()),
+            Some(after) => Some(after.get()),
         }
     }
 
@@ -306,7 +307,7 @@ impl TunnelCore {
         &mut self,
         env: &mut Env,
         turn: Box<Turn>,
-        recovery: Option<Option<Recovering>>,
+        recovery: Option<Becomes>,
     ) -> Result<Planned, NoMemory>
         ensures same { tunnel_of self.new ≡ tunnel_of self.old }
         ensures planned { IfOk result (λ p. IsTurn p self.old.recovery (beside (unwrap_or recovery self.old.recovery) turn.value)) }
@@ -332,8 +333,8 @@ impl TunnelCore {
         give_all(&mut self.letters, turn.given);
         put_all(&mut self.calls, turn.changed);
         give_back(&mut self.calls, turn.ended.as_slice());
-        if let Some(recovery) = planned.recovery {
-            self.recovery = recovery;
+        if let Some(after) = planned.recovery {
+            self.recovery = after.into_inner();
         }
     }
 

@@ -7,6 +7,7 @@ ghost use Rattle.end_model.specs.Recovering.{recovery_ticks, recovering_turns, h
 ghost use Rattle.end_model.specs.Starting.{restores};
 ghost use Rattle.tunnel_core.specs.Cores.{beside, task_turn, HasId};
 
+use crate::becoming::Becomes;
 use crate::events::run;
 use crate::task::Task;
 use due_laws::early_ticks_do_nothing;
@@ -24,16 +25,13 @@ use tunnel_timers::recovery_due;
 use tunnel_turn::turn::Turn;
 use wire_base::{NoMemory, Why};
 
-/// What a recovery tunnel becomes, where it changes.
-type Becomes = Option<Option<Recovering>>;
-
 /// Time passes for the recovery tunnel, where something is due for it.
 #[tactic(auto, using(crate::proofs::Due::stays_early), unfolding(end_model::specs::Recovering::recovery_ticks))]
 fn tick_recovery(
     turn: &mut Turn,
     calls: &TunnelCalls,
     recovery: &Recovering,
-) -> Result<Becomes, NoMemory>
+) -> Result<Option<Becomes>, NoMemory>
     ensures { IfOk result (λ after. beside (unwrap_or after (Some recovery.now)) turn.new ≡ recovery_ticks calls.now.entries (Some recovery.now) turn.old) }
 {
     early_ticks_do_nothing();
@@ -41,7 +39,7 @@ fn tick_recovery(
         return Ok(None);
     }
     let after = tick(turn, calls, recovery.copy(turn.alloc)?)?;
-    Ok(Some(after))
+    Ok(Some(Becomes::new(turn.alloc, after)?))
 }
 
 /// An event; time passes for the recovery tunnel behind all else.
@@ -54,7 +52,7 @@ fn run_event(
     calls: &TunnelCalls,
     recovery: Option<&Recovering>,
     event: &Event,
-) -> Result<Becomes, NoMemory>
+) -> Result<Option<Becomes>, NoMemory>
     ensures { (t : Tunnel) → t.letters ≡ letters.now.letters → t.calls ≡ calls.now.entries → t.recovery ≡ option_copied recovery.entry → IfOk result (λ after. beside (unwrap_or after t.recovery) turn.new ≡ recovering_turns role config.now t event.now turn.old) }
 {
     run(turn, role, config, letters, calls, event)?;
@@ -74,7 +72,7 @@ fn hear_recovery(
     recovery: Option<&Recovering>,
     header: &Header,
     body: &Body<'_>,
-) -> Result<Becomes, NoMemory>
+) -> Result<Option<Becomes>, NoMemory>
     ensures { IfOk result (λ after. beside (unwrap_or after (option_copied recovery.entry)) turn.new ≡ hears_recovery config.now letters.now.letters calls.now.entries header.now body.now (option_copied recovery.entry) turn.old) }
 {
     let Some(recovery) = recovery else {
@@ -83,7 +81,7 @@ fn hear_recovery(
     };
     let copy = recovery.copy(turn.alloc)?;
     let after = hear(turn, config, letters, calls, header, body, copy)?;
-    Ok(Some(after))
+    Ok(Some(Becomes::new(turn.alloc, after)?))
 }
 
 /// What a tunnel with these letters and calls, and with this recovery tunnel, does in a step about this; an id that was drawn for it isn't 0.
@@ -95,7 +93,7 @@ pub(crate) fn run_task(
     calls: &TunnelCalls,
     recovery: Option<&Recovering>,
     task: &Task<'_>,
-) -> Result<Becomes, NoMemory>
+) -> Result<Option<Becomes>, NoMemory>
     requires { HasId task.now }
     ensures { (t : Tunnel) → t.letters ≡ letters.now.letters → t.calls ≡ calls.now.entries → t.recovery ≡ option_copied recovery.entry → IfOk result (λ after. beside (unwrap_or after t.recovery) turn.new ≡ task_turn role config.now t task.now turn.old) }
 {
@@ -110,7 +108,7 @@ pub(crate) fn run_task(
             draw,
         } => {
             let answer = freeze(turn, role, config, calls, opening, *local, *draw)?;
-            Ok(Some(Some(answer)))
+            Ok(Some(Becomes::new(turn.alloc, Some(answer))?))
         }
         Task::Restore {
             tunnel,
@@ -119,7 +117,7 @@ pub(crate) fn run_task(
             draw,
         } => {
             let attempt = restore(turn, role, config, kept, tunnel, *local, *draw)?;
-            Ok(Some(Some(attempt)))
+            Ok(Some(Becomes::new(turn.alloc, Some(attempt))?))
         }
     }
 }
