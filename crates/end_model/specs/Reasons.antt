@@ -25,7 +25,7 @@ out_of_order = reason cause.State state_machine_error None
 abbrev pub other_version : Reason
 other_version = reason cause.Version version_not_supported None
 
--- it wants to recover a tunnel, and no end recovers one
+-- it wants to recover a tunnel that can't be recovered, or comes where no recovery can be asked for
 abbrev pub no_recovery : Reason
 no_recovery = reason cause.Recover general_error (Some no_control_connection)
 

@@ -32,7 +32,7 @@ pub fn other_version() -> Reason
     }
 }
 
-/// A tunnel is to be recovered, and no end recovers one.
+/// A tunnel is to be recovered that can't be, or is asked for where no recovery can be.
 pub fn no_recovery() -> Reason
     ensures { result ≡ no_recovery }
 {
