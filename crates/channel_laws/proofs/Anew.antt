@@ -153,6 +153,7 @@ module _ (h k : History) (n i e : ℕ) (new : Account) (b : Begins h k n i e new
         (let was = ok.learned (ap (λ (a : Account). a.part) (sym (first m t.local)) ∙ acceptor) in
         ap (λ (a : Account). (partner_in k.accounts 0 a).remote) (first m t.local)
         ∙ (ap (λ (a : Account). a.remote) (first (h.accounts m t.local 0).peer (h.accounts m t.local 0).remote) ∙ was));
+    late = λ is. ok.late (ap (λ (a : Account). a.closed) (sym (first m t.local)) ∙ is);
   }
 
   pub attempt_on : (m a : ℕ) (r : Restored) → AttemptOk h m a r → AttemptOk k m a r

@@ -1,12 +1,11 @@
--- The channel with which an end that answers enters the epoch of its answer: it begins by the numbers of the answer, and so did its other end's, where that
--- entered the epoch before.
-use Rattle.std.proofs.Common.{◌≡◌, ◌⊎◌, inl, inr, ⊎_elim, ℕ, ◌+◌, ◌≤◌, ◌<◌, Bool, true, false, List, [], ◌∷◌, length, refl, sym, ap, ap₂, ◌∙◌, subst, Option, Some, None, arith}
+-- The channel with which an end of a link enters the epoch of an answer, its own or its other end's: it begins by the numbers of the answer, and so did its
+-- other end's, where that entered the epoch before.
+use Rattle.std.proofs.Common.{◌≡◌, ◌⊎◌, inl, inr, ⊎_elim, ℕ, ◌<◌, List, length, refl, sym, ap, ap₂, ◌∙◌, subst, Some, arith}
 use Rattle.end_model.specs.declared.moves.Froze.{Froze}
-use Rattle.end_names.specs.Names.{node_of}
 use Rattle.step_laws.specs.Letters.{Letter}
-use Rattle.world_model.specs.World.{World, Sender, epoch_of}
+use Rattle.world_model.specs.World.{World, Sender}
 use Rattle.channel_laws.specs.Accounts.{Part, Unmade, Opener, Acceptor, Renewed, Taken, Account, no_account, History}
-use Rattle.channel_laws.specs.Facts.{IsMade, makes, partner_in, AreEven, AreLinked, BeginsBy, AsGiver, AsPeer, IsRenewed, IsPart, AccountOk, AnswerOk, Holds}
+use Rattle.channel_laws.specs.Facts.{makes, partner_in, AreEven, AreLinked, BeginsBy, IsRenewed, IsPart, AnswerOk, Holds}
 use Rattle.channel_laws.specs.Epochs.{OfOneLink, EpochsKnown}
 use Rattle.std.specs.List.{AllByRecursion}
 use Rattle.connection_laws.specs.Facts.{IsNoOpening}
@@ -14,50 +13,33 @@ use Rattle.channel_laws.proofs.Growing.{Grows, account_grows}
 use Rattle.channel_laws.proofs.Anew.{Begins, first, linked_on}
 use Rattle.channel_laws.proofs.Linked.{not_itself, opener_of, acceptor_of, renewed_of}
 
-module _ (w v : World) (h : History) (holds : Holds w h) (known : EpochsKnown w h) (makes_as : (m c : ℕ) → makes v m c ≡ makes w m c) (n i c : ℕ) (f : Froze)
-    (is : h.answers n c ≡ Some f) (own : f.tunnel ≡ i) (new : Account) (answer : new.answer ≡ Some (record { node = n; tunnel = c })) where
+-- the answer's epoch is entered by an end of its link
+module _ (w v : World) (h : History) (holds : Holds w h) (known : EpochsKnown w h) (makes_as : (m c : ℕ) → makes v m c ≡ makes w m c) (n i q c : ℕ) (f : Froze)
+    (is : h.answers q c ≡ Some f) (far far_id : ℕ) (link : AreLinked h.accounts n i far far_id)
+    (of_one : (m j : ℕ) → (r : IsRenewed v h m j (makes w q c) (h.accounts m j (makes w q c))) → (h.accounts m j (makes w q c)).peer ≡ n
+    → (h.accounts m j (makes w q c)).remote ≡ i → OfOneLink q f r.by.node r.froze)
+    (new : Account) (answer : new.answer ≡ Some (record { node = q; tunnel = c })) where
   abbrev e : ℕ
-  e = makes w n c
+  e = makes w q c
 
-  ok : AnswerOk w h n c f
-  ok = holds.answers n c f is
-
-  link : AreLinked h.accounts n i (node_of f.peer) f.remote
-  link = subst (λ q. AreLinked h.accounts n q (node_of f.peer) f.remote) own ok.linked
-
-  -- which answer the other end entered the epoch by
-  by_one : (m j : ℕ) → (r : IsRenewed v h m j e (h.accounts m j e)) → (h.accounts m j e).peer ≡ n → (h.accounts m j e).remote ≡ i
-      → OfOneLink n f r.by.node r.froze
-  by_one m j r peer remote = by r.begins
-    where
-      l : AreLinked h.accounts m j n i
-      l = subst (λ q. AreLinked h.accounts m j n q) remote (subst (λ q. AreLinked h.accounts m j q (h.accounts m j e).remote) peer r.linked)
-
-      node_is : m ≡ node_of f.peer
-      node_is = sym l.back_peer ∙ link.forth_peer
-
-      id_is : j ≡ f.remote
-      id_is = sym l.back ∙ link.forth
-
-      by : BeginsBy h m j (h.accounts m j e) r.by.node r.by.tunnel r.froze → OfOneLink n f r.by.node r.froze
-      by (AsGiver x y z q s t) = inr (x ∙ node_is, y ∙ id_is)
-      by (AsPeer x y z q s t) = inl (sym (x ∙ peer), own ∙ sym (y ∙ remote))
+  ok : AnswerOk w h q c f
+  ok = holds.answers q c f is
 
   pub agrees : (m j : ℕ) → IsRenewed v h m j e (h.accounts m j e) → (h.accounts m j e).peer ≡ n → (h.accounts m j e).remote ≡ i
       → new.answer ≡ (h.accounts m j e).answer
   agrees m j r peer remote =
-      let same = known.one n c f r.by.node r.by.tunnel r.froze is r.answered (by_one m j r peer remote) (sym r.makes_it ∙ makes_as r.by.node r.by.tunnel) in
-      let sender : record { node = n; tunnel = c } ≡ r.by = ap₂ (λ (x y : ℕ). (record { node = x; tunnel = y })) same.0 same.1 in
+      let same = known.one q c f r.by.node r.by.tunnel r.froze is r.answered (of_one m j r peer remote) (sym r.makes_it ∙ makes_as r.by.node r.by.tunnel) in
+      let sender : record { node = q; tunnel = c } ≡ r.by = ap₂ (λ (x y : ℕ). (record { node = x; tunnel = y })) same.0 same.1 in
       answer ∙ (ap (λ (s : Sender). Some s) sender ∙ sym r.answer)
 
   -- ---- the channel itself
 
   module _ (g : Grows w v h) (k : History) (b : Begins h k n i e new) (peer : new.peer ≡ (h.accounts n i 0).peer) (remote : new.remote ≡ (h.accounts n i 0).remote)
-      (given : new.first_given ≡ f.send_from) (taken : new.first_taken ≡ f.expect) where
-    peer_is : new.peer ≡ node_of f.peer
+      (begins : BeginsBy k n i new q c f) where
+    peer_is : new.peer ≡ far
     peer_is = peer ∙ link.forth_peer
 
-    remote_is : new.remote ≡ f.remote
+    remote_is : new.remote ≡ far_id
     remote_is = remote ∙ link.forth
 
     -- the other end's channel of the epoch
@@ -66,8 +48,8 @@ module _ (w v : World) (h : History) (holds : Holds w h) (known : EpochsKnown w 
 
     other_is : k.accounts new.peer new.remote e ≡ other
     other_is = b.others new.peer new.remote e
-        (λ (q : (new.peer ≡ n) × (new.remote ≡ i) × (e ≡ e)).
-        not_itself h.accounts n i (node_of f.peer) f.remote link (sym q.0 ∙ peer_is) (sym q.1 ∙ remote_is))
+        (λ (z : (new.peer ≡ n) × (new.remote ≡ i) × (e ≡ e)).
+        not_itself h.accounts n i far far_id link (sym z.0 ∙ peer_is) (sym z.1 ∙ remote_is))
 
     other_cases : (other.part ≡ Renewed) ⊎ (other ≡ no_account)
     other_cases = by other.part refl
@@ -131,13 +113,13 @@ module _ (w v : World) (h : History) (holds : Holds w h) (known : EpochsKnown w 
       peer = peer ∙ ap (λ (a : Account). a.peer) (sym (first h k n i e new b n i));
       remote = remote ∙ ap (λ (a : Account). a.remote) (sym (first h k n i e new b n i));
       linked = linked_on h k n i e new b n i new.peer new.remote
-          (subst (λ q. AreLinked h.accounts n i q new.remote) (sym peer_is) (subst (λ q. AreLinked h.accounts n i (node_of f.peer) q) (sym remote_is) link));
-      by = record { node = n; tunnel = c };
+          (subst (λ z. AreLinked h.accounts n i z new.remote) (sym peer_is) (subst (λ z. AreLinked h.accounts n i far z) (sym remote_is) link));
+      by = record { node = q; tunnel = c };
       answer = answer;
       froze = f;
-      answered = b.answers n c ∙ is;
-      makes_it = makes_as n c;
-      begins = AsGiver refl own (sym peer_is) (sym remote_is) given taken;
+      answered = b.answers q c ∙ is;
+      makes_it = makes_as q c;
+      begins = begins;
       other = ⊎_elim (λ q. inl (ap (λ (a : Account). a.part) other_is ∙ q)) (λ none. inr (other_is ∙ none)) other_cases;
       same = λ part.
           (let r = other_renewed (ap (λ (a : Account). a.part) (sym other_is) ∙ part) in

@@ -1,16 +1,16 @@
 -- The deed of a reset: one account begins anew, and all else that is known stays.
-use Rattle.std.proofs.Common.{◌≡◌, ◌⊎◌, inl, inr, ⊎_elim, ℕ, ◌≤◌, ◌<◌, Bool, true, false, List, [], refl, sym, ap, ◌∙◌, subst, Option, Some, None, arith}
+use Rattle.std.proofs.Common.{◌≡◌, ℕ, ◌<◌, Bool, true, false, [], refl, sym, ap, ◌∙◌, subst, Option, arith}
 use Rattle.std.proofs.lemmas.Bool.{true≢false, eqb-true, eq-eqb}
 use Rattle.std.specs.Prelude.{◌==◌, ◌&&◌, if◌then◌else◌}
-use Rattle.end_model.specs.declared.moves.Move.{Move}
 use Rattle.end_model.specs.declared.moves.Move.TheVariants as move
 use Rattle.end_model.specs.declared.moves.ResetAnswering.{ResetAnswering}
+use Rattle.end_model.specs.declared.moves.ResetAttempting.{ResetAttempting}
 use Rattle.end_model.specs.declared.moves.Restored.{Restored}
 use Rattle.end_model.specs.declared.moves.Froze.{Froze}
 use Rattle.end_names.specs.Names.{node_of}
 use Rattle.world_model.specs.World.{World, Deed, epoch_of}
 use Rattle.channel_laws.specs.Accounts.{Part, Unmade, Opener, Acceptor, Renewed, Account, no_account, renewed, about, declines_of, declined_in, entered_by, after_deed, attempts_by, answers_by, after, History}
-use Rattle.channel_laws.specs.Facts.{IsMade, IsPart, AccountOk, Holds}
+use Rattle.channel_laws.specs.Facts.{IsPart, Holds}
 use Rattle.channel_laws.proofs.Anew.{Begins}
 
 -- an account of an epoch above the one in which its tunnel is was never made
@@ -42,12 +42,12 @@ module _ (h : History) (d : Deed) (n i e : ℕ) (new : Account) (node : d.node �
   plain : (m j u : ℕ) (a : Account) → after_deed d m j u a ≡ (if ((d.node == m) && (about d.move == j)) && (d.epoch == u) then entered_by d d.move a else a)
   plain m j u a = ap (λ b. declined_in (b && (u == 0)) (if ((d.node == m) && (about d.move == j)) && (d.epoch == u) then entered_by d d.move a else a)) (declines m j)
 
-  here : after_deed d n i e (h.accounts n i e) ≡ new
+  pub here : after_deed d n i e (h.accounts n i e) ≡ new
   here =
       plain n i e (h.accounts n i e)
       ∙ (chosen_here (d.node == n) (about d.move == i) (d.epoch == e) _ _ (eq-eqb d.node n node) (eq-eqb (about d.move) i about_it) (eq-eqb d.epoch e epoch) ∙ becomes)
 
-  others : (m j u : ℕ) → ((m ≡ n) × (j ≡ i) × (u ≡ e) → ⊥) → after_deed d m j u (h.accounts m j u) ≡ h.accounts m j u
+  pub others : (m j u : ℕ) → ((m ≡ n) × (j ≡ i) × (u ≡ e) → ⊥) → after_deed d m j u (h.accounts m j u) ≡ h.accounts m j u
   others m j u apart = plain m j u (h.accounts m j u) ∙ by (((d.node == m) && (about d.move == j)) && (d.epoch == u)) refl
     where
       by : (b : Bool) → ((d.node == m) && (about d.move == j)) && (d.epoch == u) ≡ b → (if b then entered_by d d.move (h.accounts m j u) else h.accounts m j u) ≡ h.accounts m j u
@@ -75,5 +75,14 @@ pub answering_begins : (h : History) (d : Deed) (m : ResetAnswering) (n e : ℕ)
     → Begins h (after h d) n m.tunnel e (renewed (node_of m.peer) m.remote (record { node = d.node; tunnel = m.answer }) m.send_from m.expect)
 answering_begins h d m n e is node epoch later was =
     begins_so h d n m.tunnel e (renewed (node_of m.peer) m.remote (record { node = d.node; tunnel = m.answer }) m.send_from m.expect) node (ap about is) epoch
+    (ap (λ q. entered_by d q (h.accounts n m.tunnel e)) is) (λ p j. ap (λ q. declines_of q p j) is) (λ p a o. ap (λ q. attempts_by d q p a o) is)
+    (λ p c o. ap (λ q. answers_by d q p c o) is) later was refl refl refl
+
+-- and of the reset of an end that attempts
+pub attempting_begins : (h : History) (d : Deed) (m : ResetAttempting) (n e : ℕ) → d.move ≡ move.ResetAttempting m → d.node ≡ n → d.epoch ≡ e → 0 < e
+    → h.accounts n m.tunnel e ≡ no_account
+    → Begins h (after h d) n m.tunnel e (renewed (node_of m.peer) m.remote (record { node = node_of m.peer; tunnel = m.answer }) m.send_from m.expect)
+attempting_begins h d m n e is node epoch later was =
+    begins_so h d n m.tunnel e (renewed (node_of m.peer) m.remote (record { node = node_of m.peer; tunnel = m.answer }) m.send_from m.expect) node (ap about is) epoch
     (ap (λ q. entered_by d q (h.accounts n m.tunnel e)) is) (λ p j. ap (λ q. declines_of q p j) is) (λ p a o. ap (λ q. attempts_by d q p a o) is)
     (λ p c o. ap (λ q. answers_by d q p c o) is) later was refl refl refl

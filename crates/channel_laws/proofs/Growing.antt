@@ -98,7 +98,8 @@ module _ (w v : World) (h : History) (g : Grows w v h) where
     is = r.is;
     number = r.number;
     nr = r.nr;
-    says = ⊎_elim (λ k. inl k) (λ k. inr (k.0, says_grows p own r.named k.0 k.1, k.2)) r.says;
+    nr_fits = r.nr_fits;
+    says = ⊎_elim (λ k. inl k) (λ k. inr (k.0, says_grows p own r.named k.0 k.1, k.2, k.3)) r.says;
   }
 
   origin_grows : (p : Packet) (o : Origin) → OriginOk w h p o → OriginOk v h p o

@@ -11,3 +11,37 @@ pub mod Anew
 pub mod Resetting
 pub mod Deeds
 pub mod Answering
+mod Ends
+mod Entering
+mod Waiting
+mod Begun
+mod ResetsAnswering
+mod Making
+mod Answered
+mod Established
+mod Readings
+mod Coming
+mod Naming
+mod Freezing
+mod ResetsAttempting
+mod Recoveries
+mod Extending
+mod Later
+mod Going
+mod Open
+mod Giving
+mod GivingMoves
+pub mod Calm
+pub mod Main
+pub mod FirstMoves
+pub mod Alone
+pub mod Births
+pub mod First
+pub mod Apart
+pub mod Learning
+pub mod GoingLater
+pub mod HeardLater
+pub mod LaterMoves
+pub mod TakesLater
+pub mod ClosesLater
+mod Takings

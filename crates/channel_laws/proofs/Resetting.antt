@@ -99,6 +99,7 @@ module _ (h k : History) (n i e : ℕ) (new : Account) (b : Begins h k n i e new
         subst (λ a. ChannelOk k.accounts m j (epoch_of w m j) a t) (sym same) (channel_on m j (epoch_of w m j) (h.accounts m j (epoch_of w m j)) t (ok.channel current)));
     kept = ok.kept;
     established = ok.established;
+    some = ok.some;
     knows = λ inactive. knows_on h k n i e new b m j t.control.remote (ok.knows inactive);
     learned = λ inactive acceptor.
         (let was = ok.learned inactive (sym (first_part m j) ∙ acceptor) in
@@ -151,7 +152,8 @@ module _ (h k : History) (n i e : ℕ) (new : Account) (b : Begins h k n i e new
         (λ s. inr (there_on (k.answers p.from own) (h.answers p.from own) (b.answers p.from own) s)) r.is;
     number = r.number;
     nr = r.nr;
-    says = ⊎_elim (λ q. inl q) (λ q. inr (q.0, says_on w p own r.named q.0 q.1, q.2)) r.says;
+    nr_fits = r.nr_fits;
+    says = ⊎_elim (λ q. inl q) (λ q. inr (q.0, says_on w p own r.named q.0 q.1, q.2, q.3)) r.says;
   }
 
   pub packets_on : (w : World) (ps : List Packet) → AllByRecursion (PacketOk w h) ps → AllByRecursion (PacketOk w k) ps
@@ -173,7 +175,7 @@ module _ (w v : World) (h k : History) (n i e : ℕ) (new : Account) (b : Begins
       (λ no. inr (λ (r : (m ≡ n) × (j ≡ i)). no r.0))
       (same_or_not m n)
 
-  grows : Grows w v h
+  pub grows : Grows w v h
   grows = record {
     epochs = λ m j. ⊎_elim
         (λ (q : (m ≡ n) × (j ≡ i)). rw (q.0, q.1) (omega (arith, entered, up)))
@@ -203,6 +205,7 @@ module _ (w v : World) (h k : History) (n i e : ℕ) (new : Account) (b : Begins
     channel = λ current. subst (λ u. ChannelOk h.accounts m j u (h.accounts m j u) t) (sym (ap (λ (s : Standing). s.epoch) (standings m j o))) (ok.channel current);
     kept = λ current. ap (λ (s : Standing). s.lost) (standings m j o) ∙ ok.kept current;
     established = ok.established;
+    some = ok.some;
     knows = ok.knows;
     learned = ok.learned;
     recovery = λ r is. recovered_grows m j r o (ok.recovery r is);
@@ -255,6 +258,7 @@ module _ (w v : World) (h k : History) (n i e : ℕ) (new : Account) (b : Begins
         none = λ none. absurd (known (ap (λ (a : Account). a.part) (sym (first h k n i e new b n i)) ∙ none));
         entered = λ was none. (let here = ap (λ u. (k.accounts n i u).part) entered ∙ (ap (λ (a : Account). a.part) b.here ∙ b.part) in let two : Renewed ≡ Unmade = sym here ∙ none in absurd cc);
         made = omega (arith, entered, made, enough);
+        fits = (let lt = (holds.standings n i).fits in omega (arith, made, lt));
       }
 
       other : (m j : ℕ) → ((m ≡ n) × (j ≡ i) → ⊥) → StandingOk k m j (standing_of w m j)
@@ -265,6 +269,7 @@ module _ (w v : World) (h k : History) (n i e : ℕ) (new : Account) (b : Begins
             entered = λ was. subst IsMade (sym (b.others m j (standing_of w m j).epoch (λ (q : (m ≡ n) × (j ≡ i) × ((standing_of w m j).epoch ≡ e)). o (q.0, q.1))))
                 (ok.entered (λ none. was (ap (λ (a : Account). a.part) (first h k n i e new b m j) ∙ none)));
             made = ok.made;
+            fits = ok.fits;
           }
 
   pub begun_holds : AccountOk v k n i e new → ((m : ℕ) → NodeOk v k m (at v.nodes m)) → Holds v k

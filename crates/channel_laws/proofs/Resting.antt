@@ -88,6 +88,7 @@ module _ (w v : World) (h : History) (rests : (n : ℕ) → RestsBy h n (at w.no
     none = λ unmade. none_rests n i unmade (ok.none unmade);
     entered = λ made. subst (λ e. IsMade (h.accounts n i e)) (sym (epochs_rest n i)) (ok.entered made);
     made = (let e = epochs_rest n i in let m = made_rests n i in let le = ok.made in omega (arith, e, m, le));
+    fits = (let m = made_rests n i in let lt = ok.fits in omega (arith, m, lt));
   }
 
   -- so all of it holds, where the nodes do
@@ -120,6 +121,7 @@ module _ (w v : World) (h : History) (rests : (n : ℕ) → RestsBy h n (at w.no
     channel = λ current. subst (λ e. ChannelOk h.accounts n i e (h.accounts n i e) t) (sym (epochs_rest n i)) (ok.channel current);
     kept = λ current. lost ∙ ok.kept current;
     established = ok.established;
+    some = ok.some;
     knows = ok.knows;
     learned = ok.learned;
     recovery = λ r is. recovered_rests n i r (ok.recovery r is);
@@ -381,6 +383,7 @@ module _ (w : World) (h : History) (n : ℕ) (new : Node) (lt : n < 256) (none :
       channel = λ current. subst (λ e. ChannelOk h.accounts m i e (h.accounts m i e) t) (sym (ap (λ (s : Standing). s.epoch) (standing_as m i))) (ok.channel current);
       kept = λ current. ap (λ (s : Standing). s.lost) (standing_as m i) ∙ ok.kept current;
       established = ok.established;
+      some = ok.some;
       knows = ok.knows;
       learned = ok.learned;
       recovery = λ r is. recovered_as m i r (ok.recovery r is);
@@ -474,6 +477,7 @@ empty_holds = record {
     none = λ z. ap (λ q. standing_in q i) (at-none n);
     entered = λ made. absurd (made refl);
     made = (let e = ap (λ (q : Option Node). (standing_in q i).epoch) (at-none n) in omega (arith, e));
+    fits = (let e = ap (λ (q : Option Node). (standing_in q i).made) (at-none n) in omega (arith, e));
   };
   nodes = λ n. subst (NodeOk empty_world no_history n) (sym (at-none n)) ((λ i e. refl), ((λ a. refl), (λ c. refl)));
   packets = tt;

@@ -218,6 +218,7 @@ module _ (w : World) (h : History) (n i : ℕ) (t u : Tunnel) (live : LiveOk w h
     channel = λ current. channel_as h.accounts n i _ _ t u s (live.channel (sym mode ∙ current));
     kept = λ current. live.kept (sym mode ∙ current);
     established = λ inactive. ap state_number s.state ∙ live.established (sym mode ∙ inactive);
+    some = λ inactive. (let lt = live.some (sym mode ∙ inactive) in let same = s.remote in omega (arith, lt, same));
     knows = λ inactive. subst (KnowsBy h.accounts n i) (sym s.remote) (live.knows (sym mode ∙ inactive));
     learned = λ inactive. live.learned (sym mode ∙ inactive);
     recovery = recovered;

@@ -1,5 +1,5 @@
 -- What the channels of a world need to know of the epochs of two linked ends. It holds of every world that a schedule leads to, since the abstract
--- machine, with which the world is joined, has it of every list of its moves (epoch_laws' EpochsHold: open_above, attempts_answered,
+-- machine, with which the world is joined, has it of every list of its moves (epoch_laws' EpochsHold: open_above, same_epochs, attempts_answered,
 -- attempts_entered, attempts_other, answers_entered, answers_other; AnswersHold: once).
 use Rattle.std.specs.Prelude.{◌≡◌, ◌⊎◌, ℕ, ◌<◌, ◌≤◌, true, Some}
 use Rattle.id_table.specs.Ids.{at}
@@ -8,7 +8,7 @@ use Rattle.recovery_tunnel.specs.Answers.{Answering}
 use Rattle.end_model.specs.declared.moves.Froze.{Froze}
 use Rattle.end_names.specs.Names.{node_of}
 use Rattle.end_model.specs.Tunnels.{Tunnel, ByAttempt, ByAnswer, mode_of, is_current}
-use Rattle.world_model.specs.World.{World, Node, epoch_of}
+use Rattle.world_model.specs.World.{World, Node, epoch_of, standing_of}
 use Rattle.channel_laws.specs.Accounts.{History}
 use Rattle.channel_laws.specs.Facts.{AreLinked, makes}
 
@@ -36,3 +36,5 @@ pub record EpochsKnown (w : World) (h : History) : Type 0 where
   -- a tunnel that is frozen hasn't entered the epoch of its answer, and its other end is in none above that
   pub frozen : (n i m j : ℕ) (t : Tunnel) (a : Answering) → IsLive w n i t → t.recovery ≡ Some (ByAnswer a) → is_waiting a.connection ≡ true
       → AreLinked h.accounts n i m j → (epoch_of w n i < makes w n a.connection.local) × (epoch_of w m j ≤ makes w n a.connection.local)
+  -- the epochs of a link are counted alike at both ends
+  pub counted : (n i m j : ℕ) → AreLinked h.accounts n i m j → (standing_of w n i).made ≡ (standing_of w m j).made

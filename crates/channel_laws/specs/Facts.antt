@@ -9,7 +9,7 @@
 --              recovery tunnel; or a data message
 -- Of the epochs themselves nothing is said here but what the standings are: which of two ends is ahead is the abstract machine's to tell. What the
 -- channels need of that is in Epochs.
-use Rattle.std.specs.Prelude.{◌≡◌, ◌⊎◌, ℕ, ◌+◌, ◌<◌, ◌≤◌, Bool, true, false, List, [], drop, map, length, slice_get, Option, Some, None, is_some}
+use Rattle.std.specs.Prelude.{◌≡◌, ◌⊎◌, ℕ, ◌+◌, ◌^◌, ◌<◌, ◌≤◌, Bool, true, false, List, [], drop, map, length, slice_get, Option, Some, None, is_some}
 use Rattle.std.specs.List.{AllByRecursion}
 use Rattle.id_table.specs.Ids.{at}
 use Rattle.l2tp_header.specs.Spelling.{control_bytes}
@@ -17,7 +17,7 @@ use Rattle.avp_codec.specs.Spelling.{spelling}
 use Rattle.control_message.specs.declared.message.Message.{Message}
 use Rattle.control_message.specs.declared.message.Message.TheVariants.{Sccrq, Sccrp, Scccn, StopCcn}
 use Rattle.control_message.specs.declared.message.Opening.{Opening}
-use Rattle.control_message.specs.Pairs.{pairs_of}
+use Rattle.control_message.specs.Pairs.{pairs_of, IsWritten}
 use Rattle.recv_window.specs.Window.{on_wire}
 use Rattle.tunnel_fsm.specs.Rows.{state_number}
 use Rattle.session_book.specs.declared.record.BookTunnel.{BookTunnel}
@@ -168,6 +168,8 @@ pub record BookedOk (h : History) (n : ℕ) (b : BookTunnel) : Type 0 where
   pub remote : 0 < b.remote
   pub knows : KnowsBy h.accounts n b.local b.remote
   pub learned : (h.accounts n b.local 0).part ≡ Acceptor → (partner_in h.accounts 0 (h.accounts n b.local 0)).remote ≡ b.local
+  -- it wasn't closed before it heeded a letter
+  pub late : (h.accounts n b.local 0).closed ≡ Some 0 → ⊥
 
 -- ---- answers, and the epochs that they make
 
@@ -328,6 +330,7 @@ pub record LiveOk (w : World) (h : History) (n i : ℕ) (t : Tunnel) : Type 0 wh
   pub kept : is_current (mode_of t.recovery) ≡ true → (standing_of w n i).lost ≡ None
   -- one that is frozen or restored is established; it knows the id of its peer's as its book does
   pub established : is_current (mode_of t.recovery) ≡ false → state_number t.control.state ≡ 3
+  pub some : is_current (mode_of t.recovery) ≡ false → 0 < t.control.remote
   pub knows : is_current (mode_of t.recovery) ≡ false → KnowsBy h.accounts n i t.control.remote
   pub learned : is_current (mode_of t.recovery) ≡ false → (h.accounts n i 0).part ≡ Acceptor → (partner_in h.accounts 0 (h.accounts n i 0)).remote ≡ i
   pub recovery : (r : Recovering) → t.recovery ≡ Some r → IsRecovered w h n i r
@@ -372,6 +375,8 @@ pub record StandingOk (h : History) (n i : ℕ) (s : Standing) : Type 0 where
   pub none : ((h.accounts n i 0).part ≡ Unmade) → s ≡ no_standing
   pub entered : IsMade (h.accounts n i 0) → IsMade (h.accounts n i s.epoch)
   pub made : s.epoch ≤ s.made
+  -- a number of 64 bits
+  pub fits : s.made < 2 ^ 64
 
 -- ---- packets
 
@@ -423,15 +428,17 @@ pub data SaysRecovery (w : World) (h : History) (p : Packet) (own named : ℕ) :
   -- either refuses what it heard
   Refuses : (result : ℕ) (error : Option ℕ) → CodesFit result error → SaysRecovery w h p own named (StopCcn own result error)
 
--- a message of an attempt or an answer, to its other end's node: it names that one, or none as long as it isn't known
+-- a message of an attempt or an answer, to its other end's node: it names that one, or none as long as it isn't known; and it is written by the
+-- codec's rules
 pub record IsRecovery (w : World) (h : History) (p : Packet) (own : ℕ) (empty : Bool) : Type 0 where
   pub named : ℕ
   pub names : (named ≡ 0) ⊎ ((is_some (h.attempts p.to named) ≡ true) ⊎ (is_some (h.answers p.to named) ≡ true))
   pub is : (is_some (h.attempts p.from own) ≡ true) ⊎ (is_some (h.answers p.from own) ≡ true)
   pub number : ℕ
   pub nr : ℕ
+  pub nr_fits : nr < 65536
   pub says : ((empty ≡ true) × (p.bytes ≡ control_bytes named 0 (on_wire number) nr []))
-      ⊎ ((m : Message) × SaysRecovery w h p own named m × (p.bytes ≡ control_bytes named 0 (on_wire number) nr (spelling (pairs_of m))))
+      ⊎ ((m : Message) × SaysRecovery w h p own named m × IsWritten m × (p.bytes ≡ control_bytes named 0 (on_wire number) nr (spelling (pairs_of m))))
 
 abbrev pub OriginOk : World → History → Packet → Origin → Type 0
 OriginOk w h p (origin.Control o) = IsCopy (h.accounts p.from o.tunnel p.epoch) p o ⊎ IsRefusal h p o

@@ -3,7 +3,9 @@
 
 ghost use Rattle.channel_laws.specs.Heard.{NoneIsOfAnother};
 ghost use Rattle.channel_laws.specs.Lines.{LinesDo};
-ghost use Rattle.channel_laws.specs.Steps.{StillMovesKeep};
+ghost use Rattle.channel_laws.specs.Recoveries.{WrittenHasRoom, WrittenIsRead};
+ghost use Rattle.channel_laws.specs.Steps.{GivingMovesKeep, OpeningMovesKeep, RecoveriesKeep, StillMovesKeep, TakingMovesKeep};
+ghost use Rattle.connection_laws.specs.Steps.{MovesKeep};
 ghost use Rattle.frame_laws.specs.Codecs.{Codecs};
 ghost use Rattle.recv_window.specs.Window.{ClassIsTrue};
 
@@ -11,9 +13,15 @@ ghost use Rattle.recv_window.specs.Window.{ClassIsTrue};
 fn laws_below()
     ensures codecs { Codecs }
     ensures classes { ClassIsTrue }
+    ensures again { WrittenIsRead }
+    ensures room { WrittenHasRoom }
+    ensures calm { MovesKeep }
 {
     frame_laws::written_is_read_again();
     recv_window::the_class_is_true();
+    control_message::reads_what_was_written();
+    control_message::has_room();
+    connection_laws::steps_keep();
 }
 
 /// In a world in which what is written in Facts and Epochs holds, a control message that may be delivered to a live tunnel, which is neither frozen
@@ -37,3 +45,35 @@ pub fn lines_do()
 pub fn still_moves_keep()
     ensures { StillMovesKeep }
 {}
+
+/// A move of a step keeps what holds where an attempt of the other end is answered, which freezes the tunnel and makes an epoch of its link, and where
+/// either end resets its tunnel, and so enters the epoch of the answer.
+pub fn recoveries_keep()
+    ensures { RecoveriesKeep }
+{
+    laws_below();
+}
+
+/// A move of a step keeps what holds where an established tunnel is given a letter and takes none: it asks for a call, tells of the end of one, or says
+/// that it is there.
+pub fn giving_moves_keep()
+    ensures { GivingMovesKeep }
+{
+    laws_below();
+}
+
+/// A move of a step keeps what holds where a tunnel that opens learns its other end by the answer to its SCCRQ, is confirmed by an SCCCN, or is closed
+/// as it rejects that answer. All these are of a tunnel in epoch 0.
+pub fn opening_moves_keep()
+    ensures { OpeningMovesKeep }
+{
+    laws_below();
+}
+
+/// A move of a step keeps what holds where a live tunnel, in whatever epoch, takes a letter of its other end, hears what that acknowledges, is closed, or
+/// has a call that rings.
+pub fn taking_moves_keep()
+    ensures { TakingMovesKeep }
+{
+    laws_below();
+}

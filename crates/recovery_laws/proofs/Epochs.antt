@@ -240,6 +240,9 @@ module _ (w : World) (h : History) (nodes : NodesHold w) (holds : Holds w h) (m 
     one = one;
     attempted = λ n i t c is has waits k a f answered back attempt. attempted n i t is c has waits k a f answered back attempt;
     frozen = λ n i k j t a is has waits l. frozen n i t is k j a has waits l;
+    counted = λ n i k j l.
+        sym (tunnel_joined n i (made_from n i k j l)).epochs
+        ∙ (epochs.same_epochs (name n i) (name k j) (linked n i k j l) ∙ (tunnel_joined k j (made_to n i k j l)).epochs);
   }
 
 -- ---- what follows
