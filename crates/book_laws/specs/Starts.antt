@@ -1,5 +1,5 @@
 -- A start over a book: what it leaves in the checkpoint, and the book of the end that it leads to.
-use Rattle.std.specs.Prelude.{◌≡◌, ◌⊎◌, ℕ, ◌<◌, ◌≤◌, true, false, List, [], ◌∷◌, length, Some, None, is_some, Err}
+use Rattle.std.specs.Prelude.{◌≡◌, ◌⊎◌, ℕ, true, false, List, [], ◌∷◌, Some, None, is_some, Err}
 use Rattle.std.specs.List.{AllByRecursion}
 use Rattle.id_table.specs.Ids.{at}
 use Rattle.id_source.specs.declared.IdError.{IdError}
@@ -9,7 +9,7 @@ use Rattle.call_fsm.specs.declared.table.CallState.TheVariants.{Established}
 use Rattle.end_names.specs.declared.role.Role.{Role}
 use Rattle.session_book.specs.declared.record.BookTunnel.{BookTunnel}
 use Rattle.session_book.specs.declared.record.BookCall.{BookCall}
-use Rattle.session_book.specs.Books.{Kept, AreRising, tunnel_at, call_at, calls_of}
+use Rattle.session_book.specs.Books.{Kept, tunnel_at, call_at}
 use Rattle.end_model.specs.declared.tunnel.Call.{Call}
 use Rattle.end_model.specs.declared.tunnel.Config.{Config}
 use Rattle.end_model.specs.declared.out.Out.{Out}
@@ -22,34 +22,8 @@ use Rattle.step_laws.specs.Gone.{gone_in}
 use Rattle.step_laws.specs.Letters.{Among}
 use Rattle.step_laws.specs.Looks.{LooksAreTrue}
 use Rattle.step_laws.specs.Steps.{AreKept}
+pub use Rattle.step_laws.specs.Starts.{IsSoundTunnel, IsSoundCall, IsSoundBook}
 use Rattle.book_laws.specs.Books.{tunnel_record, call_record, record_in, Mirrors, IsBook, Fits, AreInPlace, book_after, SuitsRole, LeavesNone, Coming, RunIsBooked}
-
--- ---- books of which an end may start
-
--- a tunnel that may stand in a book, and a call in one of its tunnels
-pub record IsSoundTunnel (ceiling : ℕ) (t : BookTunnel) : Type 0 where
-  pub some : 0 < t.local
-  pub within : t.local ≤ ceiling
-  pub remote : 0 < t.remote
-  pub window : 0 < t.window
-
-pub record IsSoundCall (ceiling : ℕ) (c : BookCall) : Type 0 where
-  pub some : 0 < c.local
-  pub within : c.local ≤ ceiling
-
--- what a book holds fits together: its ceilings are within their spaces, and the ids of its tunnels and calls within them; its lists rise, and
--- have no more than there may be; and each of its calls is in one of its tunnels
-pub record IsSoundBook (k : Kept) : Type 0 where
-  pub tunnel_ceiling : k.tunnel_ceiling ≤ 65535
-  pub session_ceiling : k.session_ceiling ≤ 65534
-  pub draw_ceiling : k.draw_ceiling ≤ 4294967295
-  pub tunnels : AllByRecursion (IsSoundTunnel k.tunnel_ceiling) k.tunnels
-  pub calls : AllByRecursion (IsSoundCall k.session_ceiling) k.calls
-  pub tunnels_rise : AreRising (λ t. t.local) k.tunnels
-  pub calls_rise : AreRising (λ c. c.local) k.calls
-  pub homes : AllByRecursion (λ (c : BookCall). is_some (tunnel_at k c.tunnel) ≡ true) k.calls
-  pub few_tunnels : length k.tunnels ≤ 1024
-  pub few_calls : (i : ℕ) → length (calls_of i k.calls) ≤ 4096
 
 -- ---- what a start leads to
 

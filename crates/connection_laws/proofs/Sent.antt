@@ -137,8 +137,8 @@ module _ (ms : Accounts) (n : ℕ) (x : End) (sender : Option Sender) (ev : Even
           (inl (subst (λ j. IsCopy (ms n j) (packet o) c) (sym (from ∙ live.local)) is_copy));
     }
 
-    pub carries_ok : (moves : List Move) → FramesFit moves → (o : Origin) → Carries t moves bytes o → PacketOk ms (packet o)
-    carries_ok moves fit o (carries.ALetter l number lt is origin_is are) =
+    pub carries_ok : (moves : List Move) → FramesFit moves → (o : Origin) → Carries x.role x.config t moves bytes o → PacketOk ms (packet o)
+    carries_ok moves fit o (carries.ALetter current l number lt is origin_is are) =
         let k = is_letter number l lt is in
         let c : ControlOrigin = record { tunnel = t.control.local; ns = number; nr = t.control.channel.inbox.taken; empty = false } in
         let nr = on_wire t.control.channel.inbox.taken in
@@ -146,7 +146,7 @@ module _ (ms : Accounts) (n : ℕ) (x : End) (sender : Option Sender) (ev : Even
         ∙ ap (λ (q : wire.Letter). control_bytes t.control.remote q.session (on_wire number) nr q.avps) k.same
         ∙ ap (λ (q : ℕ). control_bytes t.control.remote q (on_wire number) nr (kept_letter k.letter).avps)
         (kept_session k.letter.session k.letter.message k.letter.hidden))))
-    carries_ok moves fit o (carries.Nothing number origin_is are) =
+    carries_ok moves fit o (carries.Nothing current number origin_is are) =
         let c : ControlOrigin = record { tunnel = t.control.local; ns = number; nr = t.control.channel.inbox.taken; empty = true } in
         packet_of o c refl origin_is (copy o c refl (Nothing refl are))
     carries_ok moves fit o (carries.AFrame f among tunnel_is same number origin_is are) = record {
@@ -164,5 +164,5 @@ module _ (ms : Accounts) (n : ℕ) (x : End) (sender : Option Sender) (ev : Even
       });
     }
     -- it has no recovery tunnel
-    carries_ok moves fit o (carries.InRecovery r has m said number nr origin_is are) = absurd (none-some r (sym live.recovery ∙ has))
-    carries_ok moves fit o (carries.NothingInRecovery r has number nr origin_is are) = absurd (none-some r (sym live.recovery ∙ has))
+    carries_ok moves fit o (carries.InRecovery r has m said number nr small origin_is are) = absurd (none-some r (sym live.recovery ∙ has))
+    carries_ok moves fit o (carries.NothingInRecovery r has number nr small origin_is are) = absurd (none-some r (sym live.recovery ∙ has))

@@ -381,7 +381,7 @@ module _ (laws : Laws) (number : ℕ) (w : World) (accs : Accounts) (holds : Hol
 
     -- what is sent there stays so
     sent_ok : (peer id : ℕ) (tunnel : Tunnel) → at amid.end.tunnels id ≡ Some tunnel → peer ≡ tunnel.control.peer → (bytes : List ℕ) (o : Origin)
-        → Carries tunnel amid.made bytes o → PacketOk ms (packet_from n (node_of peer) bytes o 0)
+        → Carries amid.end.role amid.end.config tunnel amid.made bytes o → PacketOk ms (packet_from n (node_of peer) bytes o 0)
     sent_ok peer id tunnel there peer_is bytes o carries =
         packet_later so_far ms grown_on (packet_from n (node_of peer) bytes o 0)
         (carries_ok so_far n amid.end sender ev (most + 16384) made_ran.kept.within made_ran.kept.given (omega (arith, room)) id tunnel there peer peer_is bytes

@@ -419,15 +419,15 @@ module _ (codecs : Codecs) (laws : StepLaws) (number : ℕ) (w : World) (gs : Li
       none_carries : (r : Recovering) → tunnel.recovery ≡ Some r → ⊥
       none_carries r has = none-some r (sym (amid_ok.tunnels id tunnel there).recovery ∙ has)
 
-      carries_ok : (bytes : List ℕ) (o : Origin) → Carries tunnel amid.made bytes o → bytes_ok bytes
-      carries_ok bytes o (ALetter l number small among origin_is are) =
+      carries_ok : (bytes : List ℕ) (o : Origin) → Carries amid.end.role amid.end.config tunnel amid.made bytes o → bytes_ok bytes
+      carries_ok bytes o (ALetter current l number small among origin_is are) =
           let to = amid_ok.tunnels id tunnel there in
           let keeps = LetterOk v.nodes n tunnel.control.peer in
           let lo = all_at keeps tunnel.letters (place_of tunnel.control.channel number) l among to.letters in
           rw (are, lo.spelt)
           (letter_ok codecs tunnel.control.remote l.session number tunnel.control.channel.inbox.taken to.remote lo.session
           v.nodes (gs ++ more) n (node_of peer) lo.message lo.hidden lo.written lo.hides (rw peer_is lo.names))
-      carries_ok bytes o (Nothing number origin_is are) =
+      carries_ok bytes o (Nothing current number origin_is are) =
           let to = amid_ok.tunnels id tunnel there in
           rw are
           (alone_ok codecs tunnel.control.remote 0 number tunnel.control.channel.inbox.taken to.remote (omega arith) v.nodes (gs ++ more) n (node_of peer))
@@ -440,8 +440,8 @@ module _ (codecs : Codecs) (laws : StepLaws) (number : ℕ) (w : World) (gs : Li
           let was_sent = sent_in_call f b (node_of peer) f.remote (ap node_of to_peer) mates in
           rw are (frame_ok codecs v.nodes (gs ++ more) n (node_of peer) tunnel.control.remote f.remote f.number f.frame to.remote k.fits number was_sent)
       -- no tunnel has a recovery tunnel
-      carries_ok bytes o (InRecovery r has m said number nr origin_is are) = absurd (none_carries r has)
-      carries_ok bytes o (NothingInRecovery r has number nr origin_is are) = absurd (none_carries r has)
+      carries_ok bytes o (InRecovery r has m said number nr small origin_is are) = absurd (none_carries r has)
+      carries_ok bytes o (NothingInRecovery r has number nr small origin_is are) = absurd (none_carries r has)
 
   -- a StopCCN of no tunnel names no call
   declined_ok : (peer : ℕ) (bytes : List ℕ) (o : Origin) → IsDecline s.moves peer bytes o → BytesOk v.nodes (gs ++ more) n (node_of peer) bytes

@@ -1,11 +1,11 @@
--- The tunnels and the calls of a whole book stand by their local ids.
+-- The tunnels and the calls of a sound book stand by their local ids.
 use Rattle.std.proofs.Common.{ℕ, ◌<◌, ◌≤◌, suc, List, [], ◌∷◌, length, arith}
 use Rattle.std.specs.Prelude.{slice_index_or}
 use Rattle.std.specs.List.{AllByRecursion, AllPairs}
 use Rattle.session_book.specs.declared.record.BookTunnel.{BookTunnel}
 use Rattle.session_book.specs.declared.record.BookCall.{BookCall}
 use Rattle.session_book.specs.Books.{Kept, calls_of}
-use Rattle.session_book.specs.Spelling.{IsKeptTunnel, IsKeptCall, IsWhole}
+use Rattle.step_laws.specs.Starts.{IsSoundTunnel, IsSoundCall, IsSoundBook}
 use Rattle.step_laws.proofs.Lists.{all_map}
 
 -- ids above one, each above the one before
@@ -53,13 +53,13 @@ calls_rise n [] over h = tt
 calls_rise n (c ∷ cs) over h =
     (over.0, calls_rise c.local cs (first_under (λ (d : BookCall). d.local) c cs h) (rest_rising (λ (d : BookCall). d.local) c cs h))
 
-pub whole_book : (k : Kept) → IsWhole k → IsBook k
-whole_book k whole = record {
-  tunnels = tunnels_rise 0 k.tunnels (all_map (IsKeptTunnel k.tunnel_ceiling) (λ (b : BookTunnel). 0 < b.local) (λ b h. h.drawn) k.tunnels whole.tunnels) whole.tunnels_in_order;
-  calls = calls_rise 0 k.calls (all_map (IsKeptCall k.session_ceiling k.tunnels) (λ (c : BookCall). 0 < c.local) (λ c h. h.drawn) k.calls whole.calls) whole.calls_in_order;
-  few = whole.few_calls;
-  tunnels_drawn = all_map (IsKeptTunnel k.tunnel_ceiling) (λ (b : BookTunnel). b.local ≤ k.tunnel_ceiling) (λ b h. h.within) k.tunnels whole.tunnels;
-  calls_drawn = all_map (IsKeptCall k.session_ceiling k.tunnels) (λ (c : BookCall). c.local ≤ k.session_ceiling) (λ c h. h.within) k.calls whole.calls;
-  sessions = whole.session_ceiling;
-  many = whole.few_tunnels;
+pub sound_book : (k : Kept) → IsSoundBook k → IsBook k
+sound_book k sound = record {
+  tunnels = tunnels_rise 0 k.tunnels (all_map (IsSoundTunnel k.tunnel_ceiling) (λ (b : BookTunnel). 0 < b.local) (λ b h. h.some) k.tunnels sound.tunnels) sound.tunnels_rise;
+  calls = calls_rise 0 k.calls (all_map (IsSoundCall k.session_ceiling) (λ (c : BookCall). 0 < c.local) (λ c h. h.some) k.calls sound.calls) sound.calls_rise;
+  few = sound.few_calls;
+  tunnels_drawn = all_map (IsSoundTunnel k.tunnel_ceiling) (λ (b : BookTunnel). b.local ≤ k.tunnel_ceiling) (λ b h. h.within) k.tunnels sound.tunnels;
+  calls_drawn = all_map (IsSoundCall k.session_ceiling) (λ (c : BookCall). c.local ≤ k.session_ceiling) (λ c h. h.within) k.calls sound.calls;
+  sessions = sound.session_ceiling;
+  many = sound.few_tunnels;
 }

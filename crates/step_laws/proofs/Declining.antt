@@ -134,11 +134,11 @@ module _ (e : End) (kept : AreKept e) (moment peer : ℕ) (bytes : List ℕ) (h 
       abbrev MayAnswer : Opening → Type 0
       MayAnswer o = (length e.tunnels < 1024) × (LacksSecret e.config.secret o.challenge → ⊥)
 
-      -- where it tells no other id, and that is so
-      new_chain : ((o : Opening) → message_in body ≡ Ok (Sccrq o) → (o.tunnel ≡ remote) × MayAnswer o) → Leads None
+      -- where it tells no other id, and that is so, and no recovery is asked for
+      new_chain : ((o : Opening) → message_in body ≡ Ok (Sccrq o) → (o.tunnel ≡ remote) × MayAnswer o × (o.recovery ≡ None)) → Leads None
       unfolding opens_or_declines in_new
       new_chain tells = first_heard e kept moment ev block peer bytes h read control refl
-          (λ o said. ((λ j t there goes has. none_known peer remote e.tunnels alone j t there goes (has ∙ (tells o said).0)), (tells o said).1))
+          (λ o said. ((λ j t there goes has. none_known peer remote e.tunnels alone j t there goes (has ∙ (tells o said).0)), (tells o said).1, (tells o said).2))
 
       -- an SCCRQ that can be read
       module _ (o : Opening) (said : message_in body ≡ Ok (Sccrq o)) (is : remote ≡ o.tunnel) (plain : is_some o.recovery ≡ false) where
@@ -146,11 +146,11 @@ module _ (e : End) (kept : AreKept e) (moment peer : ℕ) (bytes : List ℕ) (h 
         unfolding against_body
         against_said = rw said refl
 
-        said_same : MayAnswer o → (p : Opening) → message_in body ≡ Ok (Sccrq p) → (p.tunnel ≡ remote) × MayAnswer p
+        said_same : MayAnswer o → (p : Opening) → message_in body ≡ Ok (Sccrq p) → (p.tunnel ≡ remote) × MayAnswer p × (p.recovery ≡ None)
         said_same may p again =
             let both : Ok (Sccrq o) ≡ Ok (Sccrq p) = sym said ∙ again in
             let same : o ≡ p = cc in
-            (sym (is ∙ ap (λ (x : Opening). x.tunnel) same), subst MayAnswer same may)
+            (sym (is ∙ ap (λ (x : Opening). x.tunnel) same), subst MayAnswer same may, subst (λ (x : Opening). x.recovery ≡ None) same (none_of o.recovery plain))
 
         said_by : (r : Option Reason) → against_opening e o ≡ r → Leads r
         unfolding opens_or_declines
@@ -166,7 +166,7 @@ module _ (e : End) (kept : AreKept e) (moment peer : ℕ) (bytes : List ℕ) (h 
         unfolding against_body
         against_unread = rw faulty.unread refl
 
-        unread_none : (p : Opening) → message_in body ≡ Ok (Sccrq p) → (p.tunnel ≡ remote) × MayAnswer p
+        unread_none : (p : Opening) → message_in body ≡ Ok (Sccrq p) → (p.tunnel ≡ remote) × MayAnswer p × (p.recovery ≡ None)
         unread_none p said = let both : Err faulty.why ≡ Ok (Sccrq p) = sym faulty.unread ∙ said in absurd cc
 
         unread_by : (q : Option TunnelFault) → tunnel_fault_in body ≡ q → Leads (against_faulty q)

@@ -98,7 +98,7 @@ module _ (e : End) (kept : AreKept e) (moment : ℕ) (ev : Event) where
     env = env_of e moment block
 
     module _ (i : ℕ) (t : Tunnel) (is : at e.tunnels i ≡ Some t) where
-      k : IsKept i t
+      k : IsKept e.role e.config i t
       k = kept.tunnels i t is
 
       abbrev start : Turn
@@ -499,9 +499,9 @@ module _ (e : End) (kept : AreKept e) (moment : ℕ) (ev : Event) where
           (λ none. rw none refl)
           (λ some. rw some refl)
 
-      -- no tunnel of this end is to the peer and has this id there, there may be one more, and the end can answer what is asked
+      -- no tunnel of this end is to the peer and has this id there, there may be one more, the end can answer what is asked, and no recovery is
       abbrev pub MayMake : Opening → Type 0
-      MayMake o = IsUnknown e peer o.tunnel × ((length e.tunnels < 1024) × (LacksSecret e.config.secret o.challenge → ⊥))
+      MayMake o = IsUnknown e peer o.tunnel × ((length e.tunnels < 1024) × (LacksSecret e.config.secret o.challenge → ⊥)) × (o.recovery ≡ None)
 
       accepted_good : (session local : ℕ) (o : Opening) → Hears ev peer session (Sccrq o) → MayMake o
           → takes_id e.tunnel_ids ≡ Ok local → TurnOk e moment ev [] [] None local (accepted e.role e.config (told_by o) local blank)
@@ -513,6 +513,7 @@ module _ (e : End) (kept : AreKept e) (moment : ℕ) (ev : Event) where
             few = may.1.0;
             opening = o;
             hears = (session, hears);
+            unrecovered = may.2;
             remote = refl;
             window = refl;
             alone = may.0;

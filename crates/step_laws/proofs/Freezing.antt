@@ -26,6 +26,7 @@ use Rattle.end_model.specs.End.{End, env_of, is_tied, after_turn, after_both, pl
 use Rattle.step_laws.specs.Letters.{IsRecoveryLetter}
 use Rattle.step_laws.specs.Moves.{Came, CameIn, LacksSecret, unfinished_of, finished_of}
 use Rattle.step_laws.specs.Steps.{IsKept, AreKept}
+use Rattle.step_laws.proofs.Secrets.{asks_so, responds_so}
 use Rattle.step_laws.proofs.Lists.{all_map, branch, chain_more}
 use Rattle.step_laws.proofs.Tells.{Tells}
 use Rattle.step_laws.proofs.Owing.{Fits, fits_without}
@@ -79,7 +80,7 @@ module _ (e : End) (kept : AreKept e) (moment : ℕ) (ev : Event) (block : List 
   abbrev i : ℕ
   i = t.control.local
 
-  abbrev k : IsKept i t
+  abbrev k : IsKept e.role e.config i t
   k = kept.tunnels i t is
 
   abbrev start : Turn
@@ -127,15 +128,29 @@ module _ (e : End) (kept : AreKept e) (moment : ℕ) (ev : Event) (block : List 
     reply = reply_of local s draw (opening_of e.role e.config (challenge_by e.config.secret block) (response_by 2 e.config.secret o.challenge) local)
 
     -- its letter
-    answer_says : AllByRecursion (IsRecoveryLetter i (ByAnswer answer)) answer.connection.channel.outbox.letters
+    answer_says : AllByRecursion (IsRecoveryLetter e.role e.config i (ByAnswer answer)) answer.connection.channel.outbox.letters
     unfolding new_answer
-    answer_says = ((Sccrp reply, inl (reply, refl, refl, refl, refl), refl), tt)
+    answer_says = (
+      (
+        Sccrp reply,
+        inl (record {
+          challenge = challenge_by e.config.secret block;
+          asks = asks_so e.config.secret block;
+          asked = o.challenge;
+          response = response_by 2 e.config.secret o.challenge;
+          responds = responds_so 2 e.config.secret o.challenge;
+          is = refl;
+        }),
+        refl,
+      ),
+      tt,
+    )
 
     first_calls : with_calls frozen_turn.changed t.calls ≡ finished_of t.calls
     unfolding with_move
     first_calls = left_finished t.calls t.calls k.calls (own_entries t.calls k.calls)
 
-    frozen_whole : (channel : Channel) → AllByRecursion (IsRecoveryLetter i (ByAnswer answer)) channel.outbox.letters
+    frozen_whole : (channel : Channel) → AllByRecursion (IsRecoveryLetter e.role e.config i (ByAnswer answer)) channel.outbox.letters
         → W (Some (on_channel channel (ByAnswer answer))) frozen_turn
     unfolding with_move new_answer with_calls placed with_looks
     frozen_whole channel says =
@@ -170,12 +185,12 @@ module _ (e : End) (kept : AreKept e) (moment : ℕ) (ev : Event) (block : List 
             is = record { answering = record answer { connection = record answer.connection { channel = channel } }; is = refl; local_is = refl; remote_is = refl; draw_is = refl; suggested_is = refl; waits = refl };
             after = let left = first_calls in rw (left, put-put e.tunnels t.control.local (tunnel_after start t.letters t.calls t.recovery) _) refl;
           });
-          outs = all_map IsWord _ (word_ok (tunnel_after frozen_turn t.letters t.calls (Some q)) (freezing ∷ [])) (map Gone ss) (gone_words ss);
+          outs = all_map IsWord _ (word_ok e.role e.config (tunnel_after frozen_turn t.letters t.calls (Some q)) (freezing ∷ [])) (map Gone ss) (gone_words ss);
           tells = gone_tells e moment ev ss;
           frames = (tt, tt);
           stays = (refl, h.stays.1, h.stays.2, next_after e.tunnel_ids kept.first, refl, refl);
           frozen = λ inactive. refl;
-          recovering = one_line i q (all_map (IsRecoveryLetter i (ByAnswer answer)) (IsRecoveryLetter i q) (channel_letter i channel (ByAnswer answer)) channel.outbox.letters says);
+          recovering = one_line e.role e.config i q (all_map (IsRecoveryLetter e.role e.config i (ByAnswer answer)) (IsRecoveryLetter e.role e.config i q) (channel_letter e.role e.config i channel (ByAnswer answer)) channel.outbox.letters says);
           held = h.held;
           fits = fits_ended (frozen_control (asked_in o) t.control) ss t.calls h.fits;
         }
@@ -194,5 +209,5 @@ module _ (e : End) (kept : AreKept e) (moment : ℕ) (ev : Event) (block : List 
             subst (λ x. IsStep e moment ev (after_turn e i t.letters t.calls x g.turn)) (sym w.is)
             (whole_chain e kept moment ev t.letters t.calls (Some q) i k.some g.turn
             (goes_ok e kept moment ev t.letters t.calls i k.some q (ByAnswer answer) channel frozen_turn (alike_channel w.channel channel (ByAnswer answer))
-            (all_map (IsRecoveryLetter i (ByAnswer answer)) (IsRecoveryLetter i q) (channel_letter i w.channel (ByAnswer answer)) channel.outbox.letters answer_says)
-            (frozen_whole w.channel (subst (AllByRecursion (IsRecoveryLetter i (ByAnswer answer))) (sym w.holds) answer_says))))
+            (all_map (IsRecoveryLetter e.role e.config i (ByAnswer answer)) (IsRecoveryLetter e.role e.config i q) (channel_letter e.role e.config i w.channel (ByAnswer answer)) channel.outbox.letters answer_says)
+            (frozen_whole w.channel (subst (AllByRecursion (IsRecoveryLetter e.role e.config i (ByAnswer answer))) (sym w.holds) answer_says))))

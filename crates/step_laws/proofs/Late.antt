@@ -5,6 +5,7 @@ use Rattle.std.proofs.lemmas.Option.{none-some}
 use Rattle.std.specs.List.{AllByRecursion}
 use Rattle.id_table.specs.Ids.{at, ids_of}
 use Rattle.id_table.specs.Order.{Ascends, ascends-put, ascends-without, found_put, found_without}
+use Rattle.end_model.specs.declared.tunnel.Config.{Config}
 use Rattle.end_model.specs.declared.event.Event.TheVariants.{Tick}
 use Rattle.end_model.specs.declared.tunnel.Call.{Call}
 use Rattle.end_names.specs.declared.role.Role.{Role}
@@ -128,7 +129,7 @@ ends_row Lns call.WaitConnect can h = inr refl
 ends_row r call.Established can h = never h
 
 -- there is room in each tunnel that is kept and has a call
-pub roomy : (i : ℕ) (t : Tunnel) → IsKept i t → (s : ℕ) (c : Call) → at t.calls s ≡ Some c → has_room t.control ≡ true
+pub roomy : {role : Role} {config : Config} (i : ℕ) (t : Tunnel) → IsKept role config i t → (s : ℕ) (c : Call) → at t.calls s ≡ Some c → has_room t.control ≡ true
 roomy i t k s c live =
     let fits : Fits t.control t.calls = (k.calls, k.calls_few, k.few, k.owed, k.most, k.shut) in
     has_room_for t.control t.calls (holds_live t.control t.calls (live_with t.control t.calls s c live fits) fits)

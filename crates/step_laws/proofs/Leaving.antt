@@ -11,6 +11,8 @@ use Rattle.wire_base.specs.declared.why.Why.TheVariants as why
 use Rattle.wire_base.specs.declared.cause.Cause.{Cause}
 use Rattle.wire_base.specs.declared.letter.Letter.{Letter}
 use Rattle.tunnel_fsm.specs.Rows.{state_number}
+use Rattle.end_names.specs.declared.role.Role.{Role}
+use Rattle.end_model.specs.declared.tunnel.Config.{Config}
 use Rattle.end_model.specs.declared.tunnel.Call.{Call}
 use Rattle.session_looks.specs.declared.look.CellChange.TheVariants as cell
 use Rattle.end_model.specs.declared.event.Event.{Event}
@@ -39,8 +41,9 @@ use Rattle.step_laws.proofs.Sending.{at_last, ok_is}
 use Rattle.step_laws.proofs.Shutting.{all_ended, all_ended_is, with_looks-append}
 
 -- what a recovery tunnel holds is of a recovery of the tunnel with this id
-abbrev pub IsLineKept : ℕ → Option Recovering → Type 0
-IsLineKept i recovery = (r : Recovering) → recovery ≡ Some r → AllByRecursion (IsRecoveryLetter i r) (connection_of r).channel.outbox.letters
+abbrev pub IsLineKept : Role → Config → ℕ → Option Recovering → Type 0
+IsLineKept role config i recovery =
+    (r : Recovering) → recovery ≡ Some r → AllByRecursion (IsRecoveryLetter role config i r) (connection_of r).channel.outbox.letters
 
 -- a step that leads there, and what it tells is so
 pub record IsStep (e : End) (moment : ℕ) (ev : Event) (s : Stepped) : Type 0 where
@@ -92,12 +95,12 @@ module _ (e : End) (kept : AreKept e) (moment : ℕ) (ev : Event) where
     -- a turn with what it sent, of a tunnel that has this recovery tunnel then
     pub record Whole : Type 0 where
       pub chain : Chain moment ev e r.moves (at_turn e moment ev letters calls recovery i r)
-      pub outs : AllByRecursion (OutOk tunnel r.moves) r.outputs
+      pub outs : AllByRecursion (OutOk e.role e.config tunnel r.moves) r.outputs
       pub tells : AllByRecursion (Tells e moment ev) r.outputs
       pub frames : AllByRecursion (HasOutput r.outputs) r.moves
       pub stays : StaysThere
       pub frozen : is_current (mode_of recovery) ≡ false → r.control.channel.frozen ≡ true
-      pub recovering : IsLineKept i recovery
+      pub recovering : IsLineKept e.role e.config i recovery
       pub held : Held r.control.channel.window (letters_after r letters)
       pub fits : Fits r.control (with_calls r.changed calls)
 
@@ -106,7 +109,7 @@ module _ (e : End) (kept : AreKept e) (moment : ℕ) (ev : Event) where
         ⊎_elim (λ current. absurd (true≢false (sym current ∙ inactive))) (λ (k : (r.control.channel.frozen ≡ true) × (r.took ≡ false)). k.0) goes
 
     -- a turn of the tunnel alone
-    pub whole_of : IsLineKept i recovery → Settled e moment ev letters calls recovery i r → Whole
+    pub whole_of : IsLineKept e.role e.config i recovery → Settled e moment ev letters calls recovery i r → Whole
     whole_of line h = record {
       chain = h.chain;
       outs = h.outs;
@@ -120,13 +123,13 @@ module _ (e : End) (kept : AreKept e) (moment : ℕ) (ev : Event) where
     }
 
     -- so its end's tunnels are kept
-    kept_as : (line : Option Recovering) → IsLineKept i line → (is_current (mode_of line) ≡ false → r.control.channel.frozen ≡ true) → Whole
+    kept_as : (line : Option Recovering) → IsLineKept e.role e.config i line → (is_current (mode_of line) ≡ false → r.control.channel.frozen ≡ true) → Whole
         → AreKept (left_with (put e.tunnels i (record tunnel { recovery = line })))
     kept_as line holds frozen h =
         let s = h.stays in
         record {
           tunnels = λ j u found. ⊎_elim
-              (λ (a : (j ≡ i) × (record tunnel { recovery = line } ≡ u)). subst (λ (x : Tunnel). IsKept j x) a.1 (record {
+              (λ (a : (j ≡ i) × (record tunnel { recovery = line } ≡ u)). subst (λ (x : Tunnel). IsKept e.role e.config j x) a.1 (record {
                 local = s.0 ∙ sym a.0;
                 some = λ z. some (sym a.0 ∙ z);
                 busy = s.1;
@@ -140,7 +143,7 @@ module _ (e : End) (kept : AreKept e) (moment : ℕ) (ev : Event) where
                 owed = h.fits.3;
                 acked = h.held.2;
                 frozen = frozen;
-                recovering = subst (λ k. IsLineKept k line) (sym a.0) holds;
+                recovering = subst (λ k. IsLineKept e.role e.config k line) (sym a.0) holds;
               }))
               (λ a. kept.tunnels j u a.1)
               (found_put e.tunnels i (record tunnel { recovery = line }) j u found);
@@ -166,14 +169,15 @@ module _ (e : End) (kept : AreKept e) (moment : ℕ) (ev : Event) where
     whole_chain h = let whole = chain_after h in record {
       chain = record {
         chain = whole;
-        outputs = all_map _ _ (ok_is moment ev e r.moves left (at_last moment ev e r.moves left whole) i tunnel (there_after h.stays.5)) r.outputs h.outs;
+        outputs = all_map _ _ (ok_is moment ev e r.moves left (at_last moment ev e r.moves left whole) i tunnel (there_after h.stays.5)) r.outputs
+            (subst (λ (y : End). AllByRecursion (OutOk y.role y.config tunnel r.moves) r.outputs) (sym (left_is h.stays.5)) h.outs);
         frames = h.frames;
         kept = kept_after h;
       };
       tells = h.tells;
     }
 
-    pub turn_chain : IsLineKept i recovery → Settled e moment ev letters calls recovery i r → IsStep e moment ev (after_turn e i letters calls recovery r)
+    pub turn_chain : IsLineKept e.role e.config i recovery → Settled e moment ev letters calls recovery i r → IsStep e moment ev (after_turn e i letters calls recovery r)
     turn_chain line h = whole_chain (whole_of line h)
 
     -- ---- one more move, which ends the tunnel or its recovery tunnel; what was sent went before it
@@ -183,7 +187,7 @@ module _ (e : End) (kept : AreKept e) (moment : ℕ) (ev : Event) where
 
     -- what is told and sent besides
     pub record More (outs : List Out) : Type 0 where
-      pub outs_ok : AllByRecursion (OutOk tunnel r.moves) outs
+      pub outs_ok : AllByRecursion (OutOk e.role e.config tunnel r.moves) outs
       pub tells_ok : AllByRecursion (Tells e moment ev) outs
 
     last_chain : Whole → (m : Move) → HasOutput [] m → (x : End) → Does here moment ev m x → AreKept x → (outs : List Out) → More outs
@@ -256,7 +260,7 @@ module _ (e : End) (kept : AreKept e) (moment : ℕ) (ev : Event) where
           rw (gone, looked, s.0) refl;
     }
 
-    gone_of : (ss : List ℕ) → AllByRecursion (OutOk tunnel r.moves) (map Gone ss)
+    gone_of : (ss : List ℕ) → AllByRecursion (OutOk e.role e.config tunnel r.moves) (map Gone ss)
     gone_of [] = tt
     gone_of (s ∷ ss) = (tt, gone_of ss)
 

@@ -11,6 +11,8 @@ use Rattle.control_channel.specs.Channel.{Channel}
 use Rattle.recovery_tunnel.specs.declared.progress.Progress.{Progress}
 use Rattle.recovery_tunnel.specs.declared.progress.Progress.TheVariants as progress
 use Rattle.recovery_tunnel.specs.Connections.{ControlConnection, refuses, told_by_refusal}
+use Rattle.end_names.specs.declared.role.Role.{Role}
+use Rattle.end_model.specs.declared.tunnel.Config.{Config}
 use Rattle.end_model.specs.declared.tunnel.Call.{Call}
 use Rattle.end_model.specs.declared.event.Event.{Event}
 use Rattle.end_model.specs.Reading.{TunnelFault, tunnel_fault_in, CallFault, call_fault_in}
@@ -31,10 +33,10 @@ abbrev pub as_line : Channel → Bool → ℕ → Recovering → Recovering
 as_line channel closed remote r = with_connection (record (connection_of r) { channel = channel; closed = closed; remote = remote }) r
 
 -- of that the same is said
-pub line_letter : (i : ℕ) (channel : Channel) (closed : Bool) (remote : ℕ) (r : Recovering) (l : Letter) → IsRecoveryLetter i r l
-    → IsRecoveryLetter i (as_line channel closed remote r) l
-line_letter i channel closed remote (ByAttempt c) l h = h
-line_letter i channel closed remote (ByAnswer a) l h = h
+pub line_letter : (role : Role) (config : Config) (i : ℕ) (channel : Channel) (closed : Bool) (remote : ℕ) (r : Recovering) (l : Letter)
+    → IsRecoveryLetter role config i r l → IsRecoveryLetter role config i (as_line channel closed remote r) l
+line_letter role config i channel closed remote (ByAttempt c) l h = h
+line_letter role config i channel closed remote (ByAnswer a) l h = h
 
 pub line_current : (channel : Channel) (closed : Bool) (remote : ℕ) (r : Recovering)
     → is_current (mode_of (Some (as_line channel closed remote r))) ≡ is_current (mode_of (Some r))
@@ -54,12 +56,15 @@ pub alike_line : (channel other : Channel) (closed : Bool) (r : Recovering)
 alike_line channel other closed (ByAttempt c) = (refl, refl)
 alike_line channel other closed (ByAnswer a) = (refl, refl)
 
-pub one_line : (i : ℕ) (r : Recovering) → AllByRecursion (IsRecoveryLetter i r) (connection_of r).channel.outbox.letters → IsLineKept i (Some r)
-one_line i r h q same = let is : r ≡ q = cc in subst (λ (x : Recovering). AllByRecursion (IsRecoveryLetter i x) (connection_of x).channel.outbox.letters) is h
+pub one_line : (role : Role) (config : Config) (i : ℕ) (r : Recovering) → AllByRecursion (IsRecoveryLetter role config i r) (connection_of r).channel.outbox.letters
+    → IsLineKept role config i (Some r)
+one_line role config i r h q same =
+    let is : r ≡ q = cc in subst (λ (x : Recovering). AllByRecursion (IsRecoveryLetter role config i x) (connection_of x).channel.outbox.letters) is h
 
-pub channel_letter : (i : ℕ) (channel : Channel) (r : Recovering) (l : Letter) → IsRecoveryLetter i r l → IsRecoveryLetter i (on_channel channel r) l
-channel_letter i channel (ByAttempt c) l h = h
-channel_letter i channel (ByAnswer a) l h = h
+pub channel_letter : (role : Role) (config : Config) (i : ℕ) (channel : Channel) (r : Recovering) (l : Letter) → IsRecoveryLetter role config i r l
+    → IsRecoveryLetter role config i (on_channel channel r) l
+channel_letter role config i channel (ByAttempt c) l h = h
+channel_letter role config i channel (ByAnswer a) l h = h
 
 pub alike_channel : (channel other : Channel) (r : Recovering) → IsAlikeTo (on_channel channel r) (connection_of (on_channel other r))
 alike_channel channel other (ByAttempt c) = (refl, refl)

@@ -39,13 +39,14 @@ use Rattle.end_model.specs.Sending.{letters_after}
 use Rattle.end_model.specs.Recovering.{RecoveryTurn, with_recovery, goes, acknowledges_on, resets, resets_by, told_by, cause_in, told_by_fault, after_fault, follows, heeds, hears_class, outstanding_of, is_acknowledged, settles_on, without_recovery, ends_attempt, reads_nr_on, hears_read, hears_recovery}
 use Rattle.end_model.specs.End.{End, env_of, after_turn}
 use Rattle.step_laws.specs.Causes.{Stands, IsRefusedOnLine}
-use Rattle.step_laws.specs.Letters.{IsRecoveryLetter}
+use Rattle.step_laws.specs.Letters.{IsRecoveryLetter, ConfirmsRecovery}
 use Rattle.step_laws.specs.Moves.{Does, Came, IsForLine, ComesToLine, HearsLine, LineClears, LearnsOfReply, WhyCleared, ByRecovery, ByMessage, ByFaultOnLine}
 use Rattle.step_laws.specs.Steps.{IsKept, AreKept}
 use Rattle.step_laws.proofs.Lists.{all_push, all_map, branch, chain_more, and_left, and_right}
 use Rattle.step_laws.proofs.Turns.{NoFrame, Held, at_turn, there}
 use Rattle.step_laws.proofs.Outputs.{no_frame_out}
 use Rattle.step_laws.proofs.Settling.{OutOk}
+use Rattle.step_laws.proofs.Secrets.{answers_so}
 use Rattle.step_laws.proofs.Progressing.{refused_line, told_refusal, attempt_cases, waiting_open, answer_cases}
 use Rattle.step_laws.proofs.Leaving.{IsStep, whole_of, whole_chain, clears_more, clears_chain, clears_is, ends_line}
 use Rattle.step_laws.proofs.OnLine.{on_channel, WholeAt, IsAlike, more_out, goes_ok, goes_went, ack_of, ack_ok, acknowledged_ok}
@@ -53,7 +54,7 @@ use Rattle.step_laws.proofs.Ends.{begins_settled}
 pub use Rattle.step_laws.proofs.LineConnections.{as_line, line_letter, line_current, line_channel, IsAlikeTo, alike_line, one_line, channel_letter, alike_channel, alike_after, for_line, finished_current, none_left, small_wire, stands_on_line, closed_refusal, both_same, open_refusal, fault_is, fault_cause, is_cleared, own_channel, own_alike, IsNamedBy, all_dropped}
 
 module _ (e : End) (kept : AreKept e) (moment : ℕ) (ev : Event) (block : List ℕ) (i : ℕ) (t : Tunnel) (is : at e.tunnels i ≡ Some t) where
-  abbrev k : IsKept i t
+  abbrev k : IsKept e.role e.config i t
   k = kept.tunnels i t is
 
   abbrev start : Turn
@@ -81,8 +82,8 @@ module _ (e : End) (kept : AreKept e) (moment : ℕ) (ev : Event) (block : List 
 
   pub went_on : (r : Recovering) (u : Turn) (channel : Channel) (closed : Bool) (remote : ℕ)
       → (remote ≡ (connection_of r).remote) ⊎ LearnsOfReply ev u.control.peer r remote
-      → AllByRecursion (IsRecoveryLetter i r) channel.outbox.letters
-      → AllByRecursion (OutOk (tunnel_at (Some (as_line channel closed remote r)) u) (u.moves ++ went u ∷ [])) u.outputs
+      → AllByRecursion (IsRecoveryLetter e.role e.config i r) channel.outbox.letters
+      → AllByRecursion (OutOk e.role e.config (tunnel_at (Some (as_line channel closed remote r)) u) (u.moves ++ went u ∷ [])) u.outputs
       → W (Some r) u → W (Some (as_line channel closed remote r)) (with_move (went u) u)
   unfolding with_move
   went_on r u channel closed remote learns says outs h =
@@ -105,8 +106,8 @@ module _ (e : End) (kept : AreKept e) (moment : ℕ) (ev : Event) (block : List 
         frames = all_push _ u.moves m h.frames tt;
         stays = h.stays;
         frozen = λ inactive. h.frozen (sym (line_current channel closed remote r) ∙ inactive);
-        recovering = one_line i q (subst (λ (x : Channel). AllByRecursion (IsRecoveryLetter i q) x.outbox.letters) (sym (line_channel channel closed remote r))
-            (all_map (IsRecoveryLetter i r) (IsRecoveryLetter i q) (line_letter i channel closed remote r) channel.outbox.letters says));
+        recovering = one_line e.role e.config i q (subst (λ (x : Channel). AllByRecursion (IsRecoveryLetter e.role e.config i q) x.outbox.letters) (sym (line_channel channel closed remote r))
+            (all_map (IsRecoveryLetter e.role e.config i r) (IsRecoveryLetter e.role e.config i q) (line_letter e.role e.config i channel closed remote r) channel.outbox.letters says));
         held = h.held;
         fits = h.fits;
       }
@@ -160,7 +161,7 @@ module _ (e : End) (kept : AreKept e) (moment : ℕ) (ev : Event) (block : List 
       (clears_more e kept moment ev t.letters t.calls (Some r) i k.some u (Some q) h why (ack_of e kept moment ev t.letters t.calls i k.some q v.control.peer ∷ [])
       (record {
         outs_ok = (
-          subst (λ n. OutOk (tunnel_at (Some r) u) u.moves (ack_of e kept moment ev t.letters t.calls i k.some q n)) (sym (ap (λ c. c.peer) (cleared_peer r u)))
+          subst (λ n. OutOk e.role e.config (tunnel_at (Some r) u) u.moves (ack_of e kept moment ev t.letters t.calls i k.some q n)) (sym (ap (λ c. c.peer) (cleared_peer r u)))
               (ack_ok e kept moment ev t.letters t.calls i k.some r q u alike h),
           tt,
         );
@@ -197,25 +198,25 @@ module _ (e : End) (kept : AreKept e) (moment : ℕ) (ev : Event) (block : List 
     abbrev taken_channel : Channel
     taken_channel = taken_by read_channel
 
-    letters_now : AllByRecursion (IsRecoveryLetter i r) (connection_of r).channel.outbox.letters
+    letters_now : AllByRecursion (IsRecoveryLetter e.role e.config i r) (connection_of r).channel.outbox.letters
     letters_now = base.recovering r refl
 
-    letters_read : AllByRecursion (IsRecoveryLetter i r) read_channel.outbox.letters
-    letters_read = all_dropped (IsRecoveryLetter i r) (count_acked (connection_of r).channel.outbox.window nr) (connection_of r).channel.outbox.letters letters_now
+    letters_read : AllByRecursion (IsRecoveryLetter e.role e.config i r) read_channel.outbox.letters
+    letters_read = all_dropped (IsRecoveryLetter e.role e.config i r) (count_acked (connection_of r).channel.outbox.window nr) (connection_of r).channel.outbox.letters letters_now
 
     -- it goes on, whatever its channel is then
     first_at : (channel : Channel) (closed : Bool) (remote : ℕ) → (remote ≡ (connection_of r).remote) ⊎ LearnsOfReply ev t.control.peer r remote
-        → AllByRecursion (IsRecoveryLetter i r) channel.outbox.letters → W (Some (as_line channel closed remote r)) first
+        → AllByRecursion (IsRecoveryLetter e.role e.config i r) channel.outbox.letters → W (Some (as_line channel closed remote r)) first
     first_at channel closed remote learns says = went_on r start channel closed remote learns says tt base
 
     abbrev kept_line : Channel → Recovering
     kept_line channel = as_line channel (connection_of r).closed (connection_of r).remote r
 
-    kept_at : (channel : Channel) → AllByRecursion (IsRecoveryLetter i r) channel.outbox.letters → W (Some (kept_line channel)) first
+    kept_at : (channel : Channel) → AllByRecursion (IsRecoveryLetter e.role e.config i r) channel.outbox.letters → W (Some (kept_line channel)) first
     kept_at channel says = first_at channel (connection_of r).closed (connection_of r).remote (inl refl) says
 
-    says_kept : (channel : Channel) (ls : List Letter) → AllByRecursion (IsRecoveryLetter i r) ls → AllByRecursion (IsRecoveryLetter i (kept_line channel)) ls
-    says_kept channel ls h = all_map (IsRecoveryLetter i r) (IsRecoveryLetter i (kept_line channel)) (line_letter i channel (connection_of r).closed (connection_of r).remote r) ls h
+    says_kept : (channel : Channel) (ls : List Letter) → AllByRecursion (IsRecoveryLetter e.role e.config i r) ls → AllByRecursion (IsRecoveryLetter e.role e.config i (kept_line channel)) ls
+    says_kept channel ls h = all_map (IsRecoveryLetter e.role e.config i r) (IsRecoveryLetter e.role e.config i (kept_line channel)) (line_letter e.role e.config i channel (connection_of r).closed (connection_of r).remote r) ls h
 
     -- ---- its letters go
 
@@ -224,19 +225,19 @@ module _ (e : End) (kept : AreKept e) (moment : ℕ) (ev : Event) (block : List 
 
     -- from a turn that is whole whatever its channel is then
     gone_leads : (class : Option Class) (before : ℕ) (d : Recovering) (channel : Channel) (u : Turn)
-        → ((other : Channel) → AllByRecursion (IsRecoveryLetter i d) other.outbox.letters → W (Some (on_channel other d)) u)
-        → AllByRecursion (IsRecoveryLetter i d) channel.outbox.letters → leads (after_went class before (goes (on_channel channel d) u))
+        → ((other : Channel) → AllByRecursion (IsRecoveryLetter e.role e.config i d) other.outbox.letters → W (Some (on_channel other d)) u)
+        → AllByRecursion (IsRecoveryLetter e.role e.config i d) channel.outbox.letters → leads (after_went class before (goes (on_channel channel d) u))
     gone_leads class before d channel u whole says =
         let w = goes_went e kept moment ev t.letters t.calls i k.some d channel u in
         let q = on_channel w.channel d in
-        let says_then = subst (AllByRecursion (IsRecoveryLetter i d)) (sym w.holds) says in
+        let says_then = subst (AllByRecursion (IsRecoveryLetter e.role e.config i d)) (sym w.holds) says in
         subst (λ o. leads (ended class before o (goes (on_channel channel d) u).turn)) (sym w.is)
         (finish class before q (goes (on_channel channel d) u).turn
         (goes_ok e kept moment ev t.letters t.calls i k.some q d channel u (alike_channel w.channel channel d)
-        (all_map (IsRecoveryLetter i d) (IsRecoveryLetter i q) (channel_letter i w.channel d) channel.outbox.letters says) (whole w.channel says_then)))
+        (all_map (IsRecoveryLetter e.role e.config i d) (IsRecoveryLetter e.role e.config i q) (channel_letter e.role e.config i w.channel d) channel.outbox.letters says) (whole w.channel says_then)))
 
     -- nothing else follows, but a word
-    quiet_leads : (class : Option Class) (before : ℕ) (channel : Channel) → AllByRecursion (IsRecoveryLetter i r) channel.outbox.letters
+    quiet_leads : (class : Option Class) (before : ℕ) (channel : Channel) → AllByRecursion (IsRecoveryLetter e.role e.config i r) channel.outbox.letters
         → (u : Turn) → ((q : Recovering) → W (Some q) first → W (Some q) u) → leads (after_went class before (goes (on_channel channel r) u))
     quiet_leads class before channel says u words = gone_leads class before r channel u (λ other so. words (kept_line other) (kept_at other so)) says
 
@@ -285,7 +286,7 @@ module _ (e : End) (kept : AreKept e) (moment : ℕ) (ev : Event) (block : List 
       -- what is refused: the other end is told, and the tunnel is cleared
       refuse_leads : (x : Cause) (d : Recovering) (channel : Channel) (remote : ℕ) → (remote ≡ (connection_of r).remote) ⊎ LearnsOfReply ev t.control.peer r remote
           → IsAlike e kept moment ev t.letters t.calls i k.some (heard_by remote) (connection_of (on_channel channel d))
-          → AllByRecursion (IsRecoveryLetter i (heard_by remote)) channel.outbox.letters → Stands e moment ev x
+          → AllByRecursion (IsRecoveryLetter e.role e.config i (heard_by remote)) channel.outbox.letters → Stands e moment ev x
           → ((y : End) → y.config ≡ e.config → LineClears y moment ev t.control.peer (heard_by remote))
           → leads (let v = goes (on_channel channel d) (with_output (Refused x) first) in ended (Some Next) before v.recovery (clears t.calls v.turn))
       unfolding with_calls with_move with_output
@@ -318,8 +319,8 @@ module _ (e : End) (kept : AreKept e) (moment : ℕ) (ev : Event) (block : List 
   -- it is whole, where the move is so
   anew_ok : (r q : Recovering) (m : Move) (send_from expect mark : ℕ) (u : Turn) → NoFrame m
       → Does (here (Some r) u) moment ev m (here (Some q) (anew m send_from expect mark u))
-      → AllByRecursion (OutOk (tunnel_at (Some q) (anew m send_from expect mark u)) (u.moves ++ m ∷ [])) u.outputs
-      → is_finished q ≡ true → AllByRecursion (IsRecoveryLetter i q) (connection_of q).channel.outbox.letters
+      → AllByRecursion (OutOk e.role e.config (tunnel_at (Some q) (anew m send_from expect mark u)) (u.moves ++ m ∷ [])) u.outputs
+      → is_finished q ≡ true → AllByRecursion (IsRecoveryLetter e.role e.config i q) (connection_of q).channel.outbox.letters
       → W (Some r) u → W (Some q) (anew m send_from expect mark u)
   unfolding with_move resets
   anew_ok r q m send_from expect mark u frameless does outs finished says h = record {
@@ -329,7 +330,7 @@ module _ (e : End) (kept : AreKept e) (moment : ℕ) (ev : Event) (block : List 
     frames = all_push _ u.moves m h.frames (no_frame_out u.outputs m frameless);
     stays = h.stays;
     frozen = λ inactive. absurd (true≢false (sym (finished_current q finished) ∙ inactive));
-    recovering = one_line i q says;
+    recovering = one_line e.role e.config i q says;
     held = subst (Held (opened_at (on_wire send_from) u.control.channel.window.congestion.peer_window)) (sym (none_left t.letters)) (refl, omega arith, small_wire send_from);
     fits = let f = h.fits in (
       f.0,
@@ -358,7 +359,7 @@ module _ (e : End) (kept : AreKept e) (moment : ℕ) (ev : Event) (block : List 
     abbrev ct : ControlConnection
     ct = record c0 { channel = taken_channel r0 has letter comes }
 
-    abbrev says0 : AllByRecursion (IsRecoveryLetter i r0) read_line.outbox.letters
+    abbrev says0 : AllByRecursion (IsRecoveryLetter e.role e.config i r0) read_line.outbox.letters
     says0 = letters_read r0 has letter comes
 
     abbrev P : Progress → ControlConnection → Type 0
@@ -378,8 +379,8 @@ module _ (e : End) (kept : AreKept e) (moment : ℕ) (ev : Event) (block : List 
         let stop = letter_of (stop_of c0.local x) in
         refuse_leads r0 has letter comes some next before x (ByAttempt (record (refused_line x ct) { remote = remote }))
         (sent_into (taken_channel r0 has letter comes) stop) remote learns (refl, refl)
-        (all_push (IsRecoveryLetter i q) read_line.outbox.letters stop
-        (all_map (IsRecoveryLetter i r0) (IsRecoveryLetter i q) (line_letter i read_line c0.closed remote r0) read_line.outbox.letters says0)
+        (all_push (IsRecoveryLetter e.role e.config i q) read_line.outbox.letters stop
+        (all_map (IsRecoveryLetter e.role e.config i r0) (IsRecoveryLetter e.role e.config i q) (line_letter e.role e.config i read_line c0.closed remote r0) read_line.outbox.letters says0)
         (stop_of c0.local x, inr (inr (x, refl)), refl)) so why
 
     hears_attempt : (remote : ℕ) → HearsLine ev t.control.peer (connection_of (as_line read_line c0.closed remote r0)) letter
@@ -400,20 +401,27 @@ module _ (e : End) (kept : AreKept e) (moment : ℕ) (ev : Event) (block : List 
       s = suggested_in o
 
       -- what it held is of it still
-      attempt_letter : (l : Letter) → IsRecoveryLetter i r0 l → IsRecoveryLetter i (ByAttempt cf) l
+      attempt_letter : (l : Letter) → IsRecoveryLetter e.role e.config i r0 l → IsRecoveryLetter e.role e.config i (ByAttempt cf) l
       attempt_letter l h = (
         h.0,
-        ⊎_elim (λ asks. inl asks) (λ other. ⊎_elim (λ confirms. inr (inl (confirms.0, confirms.1, refl))) (λ stops. inr (inr stops)) other) h.1,
+        ⊎_elim
+            (λ asks. inl asks)
+            (λ other. ⊎_elim
+            (λ (c : ConfirmsRecovery e.config c0.reset h.0).
+            inr (inl (record { was_reset = refl; asked = c.asked; response = c.response; responds = c.responds; is = c.is })))
+            (λ stops. inr (inr stops))
+            other)
+            h.1,
         h.2,
       )
 
-      attempt_says : AllByRecursion (IsRecoveryLetter i (ByAttempt cf)) cf.channel.outbox.letters
+      attempt_says : AllByRecursion (IsRecoveryLetter e.role e.config i (ByAttempt cf)) cf.channel.outbox.letters
       attempt_says =
           let sent = sent_into (taken_channel r0 has letter comes) (letter_of (Scccn response)) in
-          let all = all_push (IsRecoveryLetter i (ByAttempt cf)) read_line.outbox.letters (letter_of (Scccn response))
-          (all_map (IsRecoveryLetter i r0) (IsRecoveryLetter i (ByAttempt cf)) attempt_letter read_line.outbox.letters says0)
-          (Scccn response, inr (inl (response, refl, refl)), refl) in
-          branch (λ (x : Channel). AllByRecursion (IsRecoveryLetter i (ByAttempt cf)) x.outbox.letters) (o.window == 0) sent (learnt_by sent o.window) (λ zero. all) (λ other. all)
+          let all = all_push (IsRecoveryLetter e.role e.config i (ByAttempt cf)) read_line.outbox.letters (letter_of (Scccn response))
+          (all_map (IsRecoveryLetter e.role e.config i r0) (IsRecoveryLetter e.role e.config i (ByAttempt cf)) attempt_letter read_line.outbox.letters says0)
+          (Scccn response, inr (inl (record { was_reset = refl; asked = o.challenge; response = response; responds = answers_so 3 e.config.secret o.challenge; is = refl })), refl) in
+          branch (λ (x : Channel). AllByRecursion (IsRecoveryLetter e.role e.config i (ByAttempt cf)) x.outbox.letters) (o.window == 0) sent (learnt_by sent o.window) (λ zero. all) (λ other. all)
 
       abbrev attempt_move : Move
       attempt_move = move.ResetAttempting (record {
@@ -428,7 +436,7 @@ module _ (e : End) (kept : AreKept e) (moment : ℕ) (ev : Event) (block : List 
         marked = nat_lt t.control.mark draw;
       })
 
-      attempt_anew : (channel : Channel) → AllByRecursion (IsRecoveryLetter i (ByAttempt cf)) channel.outbox.letters
+      attempt_anew : (channel : Channel) → AllByRecursion (IsRecoveryLetter e.role e.config i (ByAttempt cf)) channel.outbox.letters
           → W (Some (on_channel channel (ByAttempt cf))) (anew attempt_move s.ns s.nr (max t.control.mark draw) begun)
       unfolding with_move resets
       attempt_anew channel says =
@@ -459,7 +467,7 @@ module _ (e : End) (kept : AreKept e) (moment : ℕ) (ev : Event) (block : List 
             same = (refl, refl, refl, refl, waiting_open c0 waits);
             after = rw (put-put e.tunnels t.control.local (tunnel_at (Some old) begun) _, none_left t.letters) refl;
           })
-          tt refl (all_map (IsRecoveryLetter i (ByAttempt cf)) (IsRecoveryLetter i q) (channel_letter i channel (ByAttempt cf)) channel.outbox.letters says)
+          tt refl (all_map (IsRecoveryLetter e.role e.config i (ByAttempt cf)) (IsRecoveryLetter e.role e.config i q) (channel_letter e.role e.config i channel (ByAttempt cf)) channel.outbox.letters says)
           (kept_at r0 has letter comes read_line says0)
 
       attempt_resets : P (progress.Reset s o.attempt) cf
@@ -543,7 +551,7 @@ module _ (e : End) (kept : AreKept e) (moment : ℕ) (ev : Event) (block : List 
     abbrev at1 : Answering
     at1 = answer_on (taken_channel r1 has letter comes)
 
-    abbrev says1 : AllByRecursion (IsRecoveryLetter i r1) read_answer.outbox.letters
+    abbrev says1 : AllByRecursion (IsRecoveryLetter e.role e.config i r1) read_answer.outbox.letters
     says1 = letters_read r1 has letter comes
 
     abbrev Q : Progress → Answering → Type 0
@@ -562,8 +570,8 @@ module _ (e : End) (kept : AreKept e) (moment : ℕ) (ev : Event) (block : List 
         let stop = letter_of (stop_of a0.connection.local x) in
         refuse_leads r1 has letter comes some next before x (ByAnswer (record at1 { connection = refused_line x at1.connection }))
         (sent_into (taken_channel r1 has letter comes) stop) a0.connection.remote (inl refl) (refl, refl)
-        (all_push (IsRecoveryLetter i q) read_answer.outbox.letters stop
-        (all_map (IsRecoveryLetter i r1) (IsRecoveryLetter i q) (channel_letter i read_answer r1) read_answer.outbox.letters says1)
+        (all_push (IsRecoveryLetter e.role e.config i q) read_answer.outbox.letters stop
+        (all_map (IsRecoveryLetter e.role e.config i r1) (IsRecoveryLetter e.role e.config i q) (channel_letter e.role e.config i read_answer r1) read_answer.outbox.letters says1)
         (stop_of a0.connection.local x, inr (x, refl), refl)) so why
 
     hears_answer : HearsLine ev t.control.peer (answer_on read_answer).connection letter
@@ -593,10 +601,10 @@ module _ (e : End) (kept : AreKept e) (moment : ℕ) (ev : Event) (block : List 
         expect = s1.ns;
       })
 
-      answer_letter : (l : Letter) → IsRecoveryLetter i r1 l → IsRecoveryLetter i (ByAnswer af) l
+      answer_letter : (l : Letter) → IsRecoveryLetter e.role e.config i r1 l → IsRecoveryLetter e.role e.config i (ByAnswer af) l
       answer_letter l h = h
 
-      answer_anew : (channel : Channel) → AllByRecursion (IsRecoveryLetter i (ByAnswer af)) channel.outbox.letters
+      answer_anew : (channel : Channel) → AllByRecursion (IsRecoveryLetter e.role e.config i (ByAnswer af)) channel.outbox.letters
           → W (Some (on_channel channel (ByAnswer af))) (anew answer_move s1.nr s1.ns t.control.mark begun_answer)
       unfolding with_move resets
       answer_anew channel says =
@@ -620,17 +628,17 @@ module _ (e : End) (kept : AreKept e) (moment : ℕ) (ev : Event) (block : List 
             said = said;
             right = right;
             new = record af { connection = record af.connection { channel = channel } };
-            same = (refl, refl, refl, refl);
+            same = (refl, refl, refl, refl, refl);
             after = rw (put-put e.tunnels t.control.local (tunnel_at (Some old) begun_answer) _, none_left t.letters) refl;
           })
-          tt refl (all_map (IsRecoveryLetter i (ByAnswer af)) (IsRecoveryLetter i q) (channel_letter i channel (ByAnswer af)) channel.outbox.letters says)
+          tt refl (all_map (IsRecoveryLetter e.role e.config i (ByAnswer af)) (IsRecoveryLetter e.role e.config i q) (channel_letter e.role e.config i channel (ByAnswer af)) channel.outbox.letters says)
           (kept_at r1 has letter comes read_answer says1)
 
       answer_resets : Q (progress.Reset s1 None) af
       unfolding follows resets_by with_move
       answer_resets =
           gone_leads r1 has letter comes (Some Next) before (ByAnswer af) af.connection.channel (anew answer_move s1.nr s1.ns t.control.mark begun_answer) answer_anew
-          (all_map (IsRecoveryLetter i r1) (IsRecoveryLetter i (ByAnswer af)) answer_letter read_answer.outbox.letters says1)
+          (all_map (IsRecoveryLetter e.role e.config i r1) (IsRecoveryLetter e.role e.config i (ByAnswer af)) answer_letter read_answer.outbox.letters says1)
 
     answer_message : (m : Message) → message_in letter.body ≡ Ok m → Q (told_to_answer e.config.secret m at1) (answer_after e.config.secret moment m at1)
     answer_message m said = answer_cases e.config.secret moment at1 Q m (record {

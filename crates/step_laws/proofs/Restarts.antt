@@ -28,7 +28,7 @@ use Rattle.step_laws.specs.Looks.{LooksAreTrue}
 use Rattle.step_laws.specs.Moves.{Chain}
 use Rattle.step_laws.specs.Steps.{AreKept, IsOfNoStart}
 use Rattle.step_laws.specs.Starts.{StartsLookTrue, StartsAreAllowed, StartsTellForgotten}
-use Rattle.step_laws.proofs.Booked.{TunnelsRise, IsBook, CallsRise, whole_book}
+use Rattle.step_laws.proofs.Booked.{TunnelsRise, IsBook, CallsRise, sound_book}
 use Rattle.step_laws.proofs.Lists.{ascends_placed, branch}
 use Rattle.step_laws.proofs.Looks.{chain_looks, kept_order, does_order, next_risen}
 use Rattle.step_laws.proofs.Gone.{looks_tunnel, not_left}
@@ -449,11 +449,11 @@ can_be_up Lac s up = subst (CanBe Lac) (sym up) tt
 can_be_up Lns s up = subst (CanBe Lns) (sym up) tt
 
 pub starts_look_true : StartsLookTrue
-starts_look_true r c k whole moment block = (start_seen k (whole_book k whole) moment block r c).1.0.looks
+starts_look_true r c k sound moment block = (start_seen k (sound_book k sound) moment block r c).1.0.looks
 
 pub starts_are_allowed : StartsAreAllowed
-starts_are_allowed r c k whole moment block =
-    let book = whole_book k whole in
+starts_are_allowed r c k sound moment block =
+    let book = sound_book k sound in
     let x = (starts r c k moment block).end in
     let h = start_seen k book moment block r c in
     record {
@@ -468,8 +468,8 @@ starts_are_allowed r c k whole moment block =
     }
 
 pub starts_tell_forgotten : StartsTellForgotten
-starts_tell_forgotten r c k whole moment block =
-    let book = whole_book k whole in
+starts_tell_forgotten r c k sound moment block =
+    let book = sound_book k sound in
     let s = starts r c k moment block in
     let h = (start_told k book moment block r c).1 in
     record {

@@ -8,6 +8,7 @@ use Rattle.std.specs.Bool.{Decides}
 use Rattle.std.specs.Prelude.{◌==◌, ◌||◌, not, is_none}
 use Rattle.control_message.specs.declared.message.Opening.{Opening}
 use Rattle.tunnel_secret.specs.Response.{response_of, is_response}
+use Rattle.recovery_tunnel.specs.Secrets.{response_by as answered_by}
 use Rattle.end_model.specs.Secrets.{sixteen, challenge_by, response_by, lacks_secret, is_wrong}
 use Rattle.end_model.specs.declared.tunnel.Config.{Config}
 use Rattle.end_model.specs.Messages.{is_acceptable, request_of, hidden_by, hidden_request}
@@ -28,6 +29,12 @@ pub responds_so : (kind : ℕ) (secret asked : Option (List ℕ)) → Responds k
 responds_so kind None asked = refl
 responds_so kind (Some s) None = refl
 responds_so kind (Some s) (Some a) = refl
+
+-- so it is where a recovery tunnel answers
+pub answers_so : (kind : ℕ) (secret asked : Option (List ℕ)) → Responds kind secret asked (answered_by kind secret asked)
+answers_so kind None asked = refl
+answers_so kind (Some s) None = refl
+answers_so kind (Some s) (Some a) = refl
 
 pub lacks_so : (secret asked : Option (List ℕ)) → lacks_secret secret asked ≡ true → LacksSecret secret asked
 lacks_so None (Some a) is = (refl, refl)

@@ -31,7 +31,7 @@ module _ (moment : ℕ) (ev : Event) where
     word_is (Up session side frame) h = absurd h
 
     -- what is sent in a tunnel of one of its ends
-    pub ok_is : (c : InChain moment ev e ms x) (i : ℕ) (t : Tunnel) → at c.end.tunnels i ≡ Some t → (o : Out) → OutOk t c.made o → IsOfMoves moment ev e ms x o
+    pub ok_is : (c : InChain moment ev e ms x) (i : ℕ) (t : Tunnel) → at c.end.tunnels i ≡ Some t → (o : Out) → OutOk c.end.role c.end.config t c.made o → IsOfMoves moment ev e ms x o
     ok_is c i t is (Send p bytes o) h = inl (record { amid = c; id = i; tunnel = t; there = is; peer_is = h.0; carries = h.1 })
     ok_is c i t is (Up session side frame) h = absurd h
     ok_is c i t is (Gone session) h = tt

@@ -9,6 +9,8 @@ use Rattle.wire_base.specs.declared.letter.Letter.{Letter}
 use Rattle.send_window.specs.Kept.{Window}
 use Rattle.send_window.specs.Window as window
 use Rattle.control_channel.specs.Numbers.{Numbers, next_to_go, next_unsent, let_go_at}
+use Rattle.end_names.specs.declared.role.Role.{Role}
+use Rattle.end_model.specs.declared.tunnel.Config.{Config}
 use Rattle.end_model.specs.declared.tunnel.Call.{Call}
 use Rattle.end_model.specs.declared.tunnel.Control.{Control}
 use Rattle.end_model.specs.declared.event.Event.{Event}
@@ -17,7 +19,7 @@ use Rattle.end_model.specs.declared.out.Out.TheVariants.{Send, Up, Gone, Drop, C
 use Rattle.end_model.specs.declared.out.Origin.{Origin}
 use Rattle.end_model.specs.declared.moves.Move.{Move}
 use Rattle.end_model.specs.declared.moves.Move.TheVariants as move
-use Rattle.end_model.specs.Tunnels.{Tunnel, Turn, Recovering}
+use Rattle.end_model.specs.Tunnels.{Tunnel, Turn, Recovering, mode_of, is_current}
 use Rattle.end_model.specs.Events.{with_calls, tunnel_after}
 use Rattle.end_model.specs.Turn.{with_output, with_move}
 use Rattle.end_model.specs.Channels.{place, counts_sent}
@@ -100,41 +102,43 @@ goes_nowhere t = record { local = refl; peer = refl; remote = refl; acked = refl
 abbrev pub AreWithin : List Move → List Move → Type 0
 AreWithin ms ns = (m : Move) → Among m ms → Among m ns
 
-pub carries_on : (t u : Tunnel) → GoesOn t u → (ms ns : List Move) → AreWithin ms ns → (bytes : List ℕ) (o : Origin) → Carries t ms bytes o
-    → Carries u ns bytes o
-carries_on t u g ms ns within bytes o (ALetter l number small kept is said) =
-    ALetter l number small
+pub carries_on : {role : Role} {config : Config} (t u : Tunnel) → GoesOn t u → (ms ns : List Move) → AreWithin ms ns → (bytes : List ℕ) (o : Origin)
+    → Carries role config t ms bytes o → Carries role config u ns bytes o
+carries_on t u g ms ns within bytes o (ALetter current l number small kept is said) =
+    ALetter (ap (λ r. is_current (mode_of r)) g.recovery ∙ current) l number small
     (rw (g.letters, g.acked) (got_still t.letters g.more _ l kept))
     (rw (g.local, g.inbox) is)
     (rw (g.remote, g.inbox) said)
-carries_on t u g ms ns within bytes o (Nothing number is said) = Nothing number (rw (g.local, g.inbox) is) (rw (g.remote, g.inbox) said)
+carries_on t u g ms ns within bytes o (Nothing current number is said) =
+    Nothing (ap (λ r. is_current (mode_of r)) g.recovery ∙ current) number (rw (g.local, g.inbox) is) (rw (g.remote, g.inbox) said)
 carries_on t u g ms ns within bytes o (AFrame f sent tunnel peer number is said) =
     AFrame f (within _ sent) (tunnel ∙ sym g.local) (peer ∙ sym g.peer) number is (rw g.remote said)
-carries_on t u g ms ns within bytes o (InRecovery r has m says number nr is said) =
-    InRecovery r (g.recovery ∙ has) m (rw g.local says) number nr is said
-carries_on t u g ms ns within bytes o (NothingInRecovery r has number nr is said) = NothingInRecovery r (g.recovery ∙ has) number nr is said
+carries_on t u g ms ns within bytes o (InRecovery r has m says number nr small is said) =
+    InRecovery r (g.recovery ∙ has) m (rw g.local says) number nr small is said
+carries_on t u g ms ns within bytes o (NothingInRecovery r has number nr small is said) = NothingInRecovery r (g.recovery ∙ has) number nr small is said
 
 -- what is sent goes to the tunnel's peer
-abbrev pub OutOk : Tunnel → List Move → Out → Type 0
-OutOk t ms (Send p bytes o) = (p ≡ t.control.peer) × Carries t ms bytes o
-OutOk t ms (Up session side frame) = ⊥
-OutOk t ms (Gone session) = Unit {0}
-OutOk t ms (Drop w) = Unit {0}
-OutOk t ms (Cause w) = Unit {0}
+abbrev pub OutOk : Role → Config → Tunnel → List Move → Out → Type 0
+OutOk role config t ms (Send p bytes o) = (p ≡ t.control.peer) × Carries role config t ms bytes o
+OutOk role config t ms (Up session side frame) = ⊥
+OutOk role config t ms (Gone session) = Unit {0}
+OutOk role config t ms (Drop w) = Unit {0}
+OutOk role config t ms (Cause w) = Unit {0}
 
-pub out_on : (t u : Tunnel) → GoesOn t u → (ms ns : List Move) → AreWithin ms ns → (x : Out) → OutOk t ms x → OutOk u ns x
-out_on t u g ms ns within (Send p bytes o) h = (h.0 ∙ sym g.peer, carries_on t u g ms ns within bytes o h.1)
-out_on t u g ms ns within (Up session side frame) h = h
-out_on t u g ms ns within (Gone session) h = h
-out_on t u g ms ns within (Drop w) h = h
-out_on t u g ms ns within (Cause w) h = h
+pub out_on : (role : Role) (config : Config) (t u : Tunnel) → GoesOn t u → (ms ns : List Move) → AreWithin ms ns → (x : Out) → OutOk role config t ms x
+    → OutOk role config u ns x
+out_on role config t u g ms ns within (Send p bytes o) h = (h.0 ∙ sym g.peer, carries_on t u g ms ns within bytes o h.1)
+out_on role config t u g ms ns within (Up session side frame) h = h
+out_on role config t u g ms ns within (Gone session) h = h
+out_on role config t u g ms ns within (Drop w) h = h
+out_on role config t u g ms ns within (Cause w) h = h
 
-pub word_ok : (t : Tunnel) (ms : List Move) (x : Out) → IsWord x → OutOk t ms x
-word_ok t ms (Gone session) h = tt
-word_ok t ms (Drop w) h = tt
-word_ok t ms (Cause w) h = tt
-word_ok t ms (Send p bytes o) h = absurd h
-word_ok t ms (Up session side frame) h = absurd h
+pub word_ok : (role : Role) (config : Config) (t : Tunnel) (ms : List Move) (x : Out) → IsWord x → OutOk role config t ms x
+word_ok role config t ms (Gone session) h = tt
+word_ok role config t ms (Drop w) h = tt
+word_ok role config t ms (Cause w) h = tt
+word_ok role config t ms (Send p bytes o) h = absurd h
+word_ok role config t ms (Up session side frame) h = absurd h
 
 module _ (e : End) (moment : ℕ) (ev : Event) (letters : List Letter) (calls : List (ℕ × Call)) (recovery : Option Recovering) (i : ℕ) where
   abbrev tunnel : Turn → Tunnel
@@ -147,7 +151,7 @@ module _ (e : End) (moment : ℕ) (ev : Event) (letters : List Letter) (calls : 
   -- a turn, with what it sent
   pub record Settled (t : Turn) : Type 0 where
     pub chain : Chain moment ev e t.moves (at_turn e moment ev letters calls recovery i t)
-    pub outs : AllByRecursion (OutOk (tunnel t) t.moves) t.outputs
+    pub outs : AllByRecursion (OutOk e.role e.config (tunnel t) t.moves) t.outputs
     pub tells : AllByRecursion (Tells e moment ev) t.outputs
     pub frames : AllByRecursion (HasOutput t.outputs) t.moves
     pub stays : Stays recovery i moment t
@@ -158,7 +162,7 @@ module _ (e : End) (moment : ℕ) (ev : Event) (letters : List Letter) (calls : 
   pub unsent : (t : Turn) → TurnOk e moment ev letters calls recovery i t → Settled t
   unsent t h = record {
     chain = h.chain;
-    outs = all_map IsWord _ (word_ok (tunnel t) t.moves) t.outputs h.words;
+    outs = all_map IsWord _ (word_ok e.role e.config (tunnel t) t.moves) t.outputs h.words;
     tells = h.tells;
     frames = all_map _ _ (no_frame_out t.outputs) t.moves h.frames;
     stays = h.stays;
@@ -169,9 +173,9 @@ module _ (e : End) (moment : ℕ) (ev : Event) (letters : List Letter) (calls : 
 
   -- what was sent stays so as more moves are made
   pub outs_on : (t u : Turn) → GoesOn (tunnel t) (tunnel u) → (more : List Move) → u.moves ≡ t.moves ++ more → Settled t
-      → AllByRecursion (OutOk (tunnel u) u.moves) t.outputs
+      → AllByRecursion (OutOk e.role e.config (tunnel u) u.moves) t.outputs
   outs_on t u g more is h =
-      all_map _ _ (out_on (tunnel t) (tunnel u) g t.moves u.moves (λ m a. rw is (among_left m t.moves more a))) t.outputs h.outs
+      all_map _ _ (out_on e.role e.config (tunnel t) (tunnel u) g t.moves u.moves (λ m a. rw is (among_left m t.moves more a))) t.outputs h.outs
 
   -- ---- letters that go
 
@@ -216,15 +220,15 @@ module _ (e : End) (moment : ℕ) (ev : Event) (letters : List Letter) (calls : 
         fits = fits_gone t.control t.on.moment (with_calls t.changed calls) h.fits;
       }
 
-  pub sent_ok : (number : ℕ) (t : Turn) (o : Option Letter) → number < 2 ^ 64 → letter_in letters t number ≡ o → Settled t
+  pub sent_ok : (number : ℕ) (t : Turn) (o : Option Letter) → IsCurrent recovery → number < 2 ^ 64 → letter_in letters t number ≡ o → Settled t
       → Settled (sends_letter number o t)
   unfolding sends_letter with_output
-  sent_ok number t None small is h = h
-  sent_ok number t (Some l) small is h =
+  sent_ok number t None current small is h = h
+  sent_ok number t (Some l) current small is h =
       branch Settled (nat_le (length l.avps) 65523) _ _
       (λ fits. record {
         chain = h.chain;
-        outs = all_push _ t.outputs _ h.outs (refl, ALetter l number small is refl refl);
+        outs = all_push _ t.outputs _ h.outs (refl, ALetter current l number small is refl refl);
         tells = all_push _ t.outputs _ h.tells tt;
         frames = frames_more t.outputs _ t.moves h.frames;
         stays = h.stays;
@@ -238,7 +242,7 @@ module _ (e : End) (moment : ℕ) (ev : Event) (letters : List Letter) (calls : 
   unfolding lets_go sends_now
   let_go_ok number t goes h =
       let u = counted number t in
-      sent_ok number u (letter_in letters u number) (small_to_go t.control.channel number goes) refl (counted_ok number t goes h)
+      sent_ok number u (letter_in letters u number) (going_current number t goes h.goes) (small_to_go t.control.channel number goes) refl (counted_ok number t goes h)
 
   goes_ok : (rest : Turn → Turn) → ((u : Turn) → Settled u → Settled (rest u)) → (t : Turn) (o : Option ℕ) → next_to_go t.control.channel ≡ o
       → Settled t → Settled (goes_by rest letters o t)
@@ -275,7 +279,7 @@ module _ (e : End) (moment : ℕ) (ev : Event) (letters : List Letter) (calls : 
           after = refl;
         });
         outs = all_push _ t.outputs _ (outs_on t (with_move m t) (goes_nowhere (tunnel t)) (m ∷ []) refl h)
-            (refl, Nothing (next_unsent t.control.channel) refl refl);
+            (refl, Nothing current (next_unsent t.control.channel) refl refl);
         tells = all_push _ t.outputs _ h.tells tt;
         frames = all_push _ t.moves m (frames_more t.outputs _ t.moves h.frames) tt;
         stays = h.stays;
@@ -323,7 +327,7 @@ module _ (e : End) (moment : ℕ) (ev : Event) (letters : List Letter) (calls : 
   unfolding with_output
   told_settled o is so t h = record {
     chain = h.chain;
-    outs = all_push _ t.outputs o h.outs (word_ok (tunnel t) t.moves o is);
+    outs = all_push _ t.outputs o h.outs (word_ok e.role e.config (tunnel t) t.moves o is);
     tells = all_push _ t.outputs o h.tells so;
     frames = frames_more t.outputs _ t.moves h.frames;
     stays = h.stays;

@@ -48,7 +48,7 @@ use Rattle.step_laws.specs.Letters.{IsRecoveryLetter, Among}
 use Rattle.step_laws.specs.Moves.{calls_back, looks_back}
 use Rattle.step_laws.specs.Steps.{AreKept, IsChain, IsOfMoves, IsOfNoStart}
 use Rattle.step_laws.specs.Starts.{StartsAreChains}
-use Rattle.step_laws.proofs.Booked.{TunnelsRise, CallsRise, IsBook, whole_book}
+use Rattle.step_laws.proofs.Booked.{TunnelsRise, CallsRise, IsBook, sound_book}
 use Rattle.step_laws.proofs.Lists.{all_map, branch, all_push}
 use Rattle.step_laws.proofs.Turns.{next_after}
 use Rattle.step_laws.proofs.Settling.{Settled}
@@ -226,13 +226,25 @@ module _ (e : End) (kept : AreKept e) (moment : ℕ) (ev : Event) (block : List 
       let t = with_move back (came_back e.role cs start) in
       record t { ids = record t.ids { tunnels = after_id t.ids.tunnels; recoveries = after_id t.ids.recoveries } }
 
-  attempt_says : AllByRecursion (IsRecoveryLetter i (ByAttempt attempt)) attempt.channel.outbox.letters
+  attempt_says : AllByRecursion (IsRecoveryLetter e.role e.config i (ByAttempt attempt)) attempt.channel.outbox.letters
   unfolding new_attempt
   attempt_says =
-      let o = request_of local (record { sender = b.local; receiver = b.remote }) draw (opening_of e.role e.config (challenge_by e.config.secret block) None local) in
-      ((Sccrq o, inl (o, record { sender = b.local; receiver = b.remote }, refl, refl, refl, refl, refl), refl), tt)
+      let o = request_of local (record { sender = b.local; receiver = b.remote }) draw (opening_of e.role e.config (challenge_by e.config.secret block) None local) in (
+        (
+          Sccrq o,
+          inl (record {
+            named = record { sender = b.local; receiver = b.remote };
+            sender = refl;
+            challenge = challenge_by e.config.secret block;
+            asks = asks_so e.config.secret block;
+            is = refl;
+          }),
+          refl,
+        ),
+        tt,
+      )
 
-  back_whole : (channel : Channel) → AllByRecursion (IsRecoveryLetter i (ByAttempt attempt)) channel.outbox.letters
+  back_whole : (channel : Channel) → AllByRecursion (IsRecoveryLetter e.role e.config i (ByAttempt attempt)) channel.outbox.letters
       → W (Some (on_channel channel (ByAttempt attempt))) back_turn
   unfolding with_move new_attempt
   back_whole channel says =
@@ -263,7 +275,7 @@ module _ (e : End) (kept : AreKept e) (moment : ℕ) (ev : Event) (block : List 
         frames = (tt, tt);
         stays = (refl, (λ z. absurd (omega (arith, z))), kept.sessions, next_after e.tunnel_ids kept.first, refl, refl);
         frozen = λ inactive. refl;
-        recovering = one_line i q (all_map (IsRecoveryLetter i (ByAttempt attempt)) (IsRecoveryLetter i q) (channel_letter i channel (ByAttempt attempt)) channel.outbox.letters says);
+        recovering = one_line e.role e.config i q (all_map (IsRecoveryLetter e.role e.config i (ByAttempt attempt)) (IsRecoveryLetter e.role e.config i q) (channel_letter e.role e.config i channel (ByAttempt attempt)) channel.outbox.letters says);
         held = (refl, omega arith, omega arith);
         fits = rw calls (
           ascends_listed e.role start.on n cs rise,
@@ -296,8 +308,8 @@ module _ (e : End) (kept : AreKept e) (moment : ℕ) (ev : Event) (block : List 
         after = w.channel;
         is = w.is;
         whole = goes_ok e kept moment ev [] [] i some q (ByAttempt attempt) channel back_turn (alike_channel w.channel channel (ByAttempt attempt))
-            (all_map (IsRecoveryLetter i (ByAttempt attempt)) (IsRecoveryLetter i q) (channel_letter i w.channel (ByAttempt attempt)) channel.outbox.letters attempt_says)
-            (back_whole w.channel (subst (AllByRecursion (IsRecoveryLetter i (ByAttempt attempt))) (sym w.holds) attempt_says));
+            (all_map (IsRecoveryLetter e.role e.config i (ByAttempt attempt)) (IsRecoveryLetter e.role e.config i q) (channel_letter e.role e.config i w.channel (ByAttempt attempt)) channel.outbox.letters attempt_says)
+            (back_whole w.channel (subst (AllByRecursion (IsRecoveryLetter e.role e.config i (ByAttempt attempt))) (sym w.holds) attempt_says));
         only = w.only;
       }
 
@@ -622,8 +634,8 @@ bare_kept r c k = record {
 
 pub starts_are_chains : StartsAreChains
 unfolding starts
-starts_are_chains r c k whole moment block ev =
-    let book = whole_book k whole in
+starts_are_chains r c k sound moment block ev =
+    let book = sound_book k sound in
     all_back k book moment block ev (bare_end r c k) k.tunnels 0 (record { end = bare_end r c k; outputs = []; moves = [] }) book.tunnels (record {
       chain = record { chain = refl; outputs = tt; frames = tt; kept = bare_kept r c k };
       up = λ j t there. absurd (none-some t (sym (at-none j) ∙ there));

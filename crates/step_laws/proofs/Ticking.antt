@@ -169,7 +169,7 @@ module _ (e : End) (moment : ℕ) (letters : List Letter) (calls : List (ℕ × 
       let u = repeated number t in
       let k = sent_keeps number (letter_in letters u number) u in
       record {
-        settled = sent_ok e moment Tick letters calls recovery i number u (letter_in letters u number)
+        settled = sent_ok e moment Tick letters calls recovery i number u (letter_in letters u number) (repeated_current number t due h.settled)
             (small_due t.control.channel moment number h.settled.held.2 due) refl (repeated_ok number t due h.settled);
         none = record { ids = k.ids ∙ h.none.ids; added = k.added ∙ h.none.added };
       }

@@ -92,7 +92,7 @@ not_due c moment never fails = by c.frozen (due_at c.outbox.window moment) (nat_
     by false true false frozen due more = absurd (true≢false (sym (rw (frozen, due, more) refl) ∙ fails))
 
 module _ (e : End) (kept : AreKept e) (moment : ℕ) (block : List ℕ) (i : ℕ) (t : Tunnel) (is : at e.tunnels i ≡ Some t) where
-  abbrev k : IsKept i t
+  abbrev k : IsKept e.role e.config i t
   k = kept.tunnels i t is
 
   abbrev start : Turn
@@ -135,23 +135,23 @@ module _ (e : End) (kept : AreKept e) (moment : ℕ) (block : List ℕ) (i : ℕ
     now_is : u.on.moment ≡ moment
     now_is = h.stays.4
 
-    abbrev own_letters : AllByRecursion (IsRecoveryLetter i r) c.channel.outbox.letters
+    abbrev own_letters : AllByRecursion (IsRecoveryLetter e.role e.config i r) c.channel.outbox.letters
     own_letters = h.recovering r refl
 
     -- what was sent stays so where its channel alone changes
-    sent_line : (channel : Channel) (o : Out) → OutOk (tunnel_after u t.letters t.calls (Some r)) u.moves o
-        → OutOk (tunnel_after u t.letters t.calls (Some (on_channel channel r))) (u.moves ++ move.RecoveryWentOn u.control.local ∷ []) o
+    sent_line : (channel : Channel) (o : Out) → OutOk e.role e.config (tunnel_after u t.letters t.calls (Some r)) u.moves o
+        → OutOk e.role e.config (tunnel_after u t.letters t.calls (Some (on_channel channel r))) (u.moves ++ move.RecoveryWentOn u.control.local ∷ []) o
     sent_line channel o is = out_line e kept moment Tick t.letters t.calls i k.some r channel u (move.RecoveryWentOn u.control.local ∷ []) o is
 
     -- the letter goes again, whatever its channel is then
-    again_at : (number : ℕ) (channel : Channel) → AllByRecursion (IsRecoveryLetter i r) channel.outbox.letters
+    again_at : (number : ℕ) (channel : Channel) → AllByRecursion (IsRecoveryLetter e.role e.config i r) channel.outbox.letters
         → W (Some (on_channel channel r)) (repeats_on (Again number) r u)
     unfolding repeats_on
     again_at number channel says =
         let q = on_channel channel r in
         letter_ok e kept moment Tick t.letters t.calls i k.some q c (own_alike channel r) number (letter_at c.channel.outbox number)
         (with_move (move.RecoveryWentOn u.control.local) u)
-        (λ l got. channel_letter i channel r l (got_all (IsRecoveryLetter i r) c.channel.outbox.letters _ l own_letters got))
+        (λ l got. channel_letter e.role e.config i channel r l (got_all (IsRecoveryLetter e.role e.config i r) c.channel.outbox.letters _ l own_letters got))
         (went_on e kept moment Tick block i t is r u channel c.closed c.remote (inl refl) says
         (all_map _ _ (sent_line channel) u.outputs h.outs) h)
 
@@ -162,8 +162,8 @@ module _ (e : End) (kept : AreKept e) (moment : ℕ) (block : List ℕ) (i : ℕ
     repeated_same (Failed first) = h
     repeated_same (Again number) = subst (λ (q : Recovering). W (Some q) (repeats_on (Again number) r u)) (own_channel r) (again_at number c.channel own_letters)
 
-    ticked_letters : AllByRecursion (IsRecoveryLetter i r) (ticked_at c.channel moment).outbox.letters
-    ticked_letters = branch (λ (x : Channel). AllByRecursion (IsRecoveryLetter i r) x.outbox.letters) c.channel.frozen _ _ (λ frozen. own_letters) (λ free. own_letters)
+    ticked_letters : AllByRecursion (IsRecoveryLetter e.role e.config i r) (ticked_at c.channel moment).outbox.letters
+    ticked_letters = branch (λ (x : Channel). AllByRecursion (IsRecoveryLetter e.role e.config i r) x.outbox.letters) c.channel.frozen _ _ (λ frozen. own_letters) (λ free. own_letters)
 
     repeated_ticked : (a : Due) → channel_tick c.channel moment ≡ a → is_failure a ≡ false → W (Some (on_channel (ticked_at c.channel moment) r)) (repeats_on a r u)
     unfolding repeats_on

@@ -17,15 +17,18 @@ use Rattle.end_model.specs.declared.moves.FrameSent.{FrameSent}
 use Rattle.end_model.specs.declared.moves.Place.{Place}
 use Rattle.end_model.specs.declared.moves.Move.{Move}
 use Rattle.end_model.specs.declared.moves.Move.TheVariants as move
-use Rattle.end_model.specs.Tunnels.{Tunnel, Recovering, ByAttempt, ByAnswer, connection_of}
+use Rattle.end_model.specs.Tunnels.{Tunnel, Recovering, ByAttempt, ByAnswer, connection_of, mode_of, is_current}
 use Rattle.end_model.specs.Messages.{opening_of, request_of, connection}
 use Rattle.control_message.specs.declared.message.Opening.{Opening}
 use Rattle.control_message.specs.declared.message.Recovery.{Recovery}
+use Rattle.control_message.specs.declared.message.Suggested.{Suggested}
 use Rattle.control_message.specs.Pairs.{pairs_of}
 use Rattle.avp_codec.specs.Spelling.{spelling}
 use Rattle.wire_base.specs.declared.cause.Cause.{Cause}
 use Rattle.recovery_tunnel.specs.Connections.{ControlConnection, letter_of, stop_of}
-use Rattle.recovery_tunnel.specs.Answers.{Answering}
+use Rattle.recovery_tunnel.specs.Attempts.{request_of as attempt_request}
+use Rattle.recovery_tunnel.specs.Answers.{Answering, reply_of}
+use Rattle.step_laws.specs.Hides.{Asks, Responds}
 
 -- one of them is this one
 abbrev pub Among : {X : Type 0} → X → List X → Type 0
@@ -66,51 +69,65 @@ letter_at t number = slice_get t.letters (place_of t.control.channel number)
 
 -- ---- what recovery tunnels say
 
--- an SCCRQ that asks for the recovery of the tunnel with this id of this end's, and tells the recovery tunnel's id and draw number
-abbrev pub AsksRecovery : ℕ → ControlConnection → Message → Type 0
-AsksRecovery i c m = (o : Opening) × (named : Recovery) × (m ≡ Sccrq o) × (o.tunnel ≡ c.local) × (o.recovery ≡ Some named) × (named.sender ≡ i)
-    × (o.attempt ≡ Some c.draw)
+-- an SCCRQ that asks for the recovery of the tunnel with this id of this end's, and tells the recovery tunnel's id and draw number; all else is
+-- as the end opens any tunnel
+pub record AsksRecovery (role : Role) (config : Config) (i local draw : ℕ) (m : Message) : Type 0 where
+  pub named : Recovery
+  pub sender : named.sender ≡ i
+  pub challenge : Option (List ℕ)
+  pub asks : Asks config.secret challenge
+  pub is : m ≡ Sccrq (attempt_request local named draw (opening_of role config challenge None local))
 
 -- an SCCCN, of an attempt that reset its tunnel
-abbrev pub ConfirmsRecovery : ControlConnection → Message → Type 0
-ConfirmsRecovery c m = (response : Option (List ℕ)) × (m ≡ Scccn response) × (is_some c.reset ≡ true)
+pub record ConfirmsRecovery (config : Config) (reset : Option ℕ) (m : Message) : Type 0 where
+  pub was_reset : is_some reset ≡ true
+  pub asked : Option (List ℕ)
+  pub response : Option (List ℕ)
+  pub responds : Responds 3 config.secret asked response
+  pub is : m ≡ Scccn response
 
--- an SCCRP, with the numbers that it suggests
-abbrev pub AnswersRecovery : Answering → Message → Type 0
-AnswersRecovery a m = (o : Opening) × (m ≡ Sccrp o) × (o.tunnel ≡ a.connection.local) × (o.suggested ≡ Some a.suggested)
-    × (o.attempt ≡ Some a.connection.draw)
+-- an SCCRP, with the numbers that it suggests; all else is as the end accepts any tunnel
+pub record AnswersRecovery (role : Role) (config : Config) (local draw : ℕ) (suggested : Suggested) (m : Message) : Type 0 where
+  pub challenge : Option (List ℕ)
+  pub asks : Asks config.secret challenge
+  pub asked : Option (List ℕ)
+  pub response : Option (List ℕ)
+  pub responds : Responds 2 config.secret asked response
+  pub is : m ≡ Sccrp (reply_of local suggested draw (opening_of role config challenge response local))
 
 -- a StopCCN that says why it refuses what came
 abbrev pub StopsRecovery : ControlConnection → Message → Type 0
 StopsRecovery c m = (why : Cause) × (m ≡ stop_of c.local why)
 
--- what a letter of a recovery tunnel says, of the tunnel with this id
-abbrev pub IsOfRecovery : ℕ → Recovering → Message → Type 0
-IsOfRecovery i (ByAttempt c) m = AsksRecovery i c m ⊎ (ConfirmsRecovery c m ⊎ StopsRecovery c m)
-IsOfRecovery i (ByAnswer a) m = AnswersRecovery a m ⊎ StopsRecovery a.connection m
+-- what a letter of a recovery tunnel says, of the tunnel with this id of an end with this role and these settings
+abbrev pub IsOfRecovery : Role → Config → ℕ → Recovering → Message → Type 0
+IsOfRecovery role config i (ByAttempt c) m = AsksRecovery role config i c.local c.draw m ⊎ (ConfirmsRecovery config c.reset m ⊎ StopsRecovery c m)
+IsOfRecovery role config i (ByAnswer a) m =
+    AnswersRecovery role config a.connection.local a.connection.draw a.suggested m ⊎ StopsRecovery a.connection m
 
 -- each letter that it holds is one of those, and has the session id 0
-abbrev pub IsRecoveryLetter : ℕ → Recovering → wire.Letter → Type 0
-IsRecoveryLetter i r l = (m : Message) × IsOfRecovery i r m × (l ≡ letter_of m)
+abbrev pub IsRecoveryLetter : Role → Config → ℕ → Recovering → wire.Letter → Type 0
+IsRecoveryLetter role config i r l = (m : Message) × IsOfRecovery role config i r m × (l ≡ letter_of m)
 
--- the bytes that are sent in a tunnel, by the ids that both ends assigned: the letter with a number, of those that the tunnel
--- keeps; an acknowledgement alone; or a frame that a move of the step sends. Nr counts what the tunnel has taken. In its recovery
--- tunnel what goes is a letter of that, or an acknowledgement alone, to the id that the other end assigned; of its numbers nothing is said
-pub data Carries (t : Tunnel) (moves : List Move) (bytes : List ℕ) (o : Origin) : Type 0 where
-  ALetter : (l : wire.Letter) (number : ℕ) → number < 2 ^ 64 → letter_at t number ≡ Some l
+-- the bytes that are sent in a tunnel, by the ids that both ends assigned: where it is neither frozen nor restored the letter with a number,
+-- of those that the tunnel keeps, or an acknowledgement alone; or a frame that a move of the step sends. Nr counts what the tunnel has taken. In its recovery
+-- tunnel what goes is a letter of that, or an acknowledgement alone, to the id that the other end assigned; of its numbers no more is said than
+-- that Nr has 16 bits
+pub data Carries (role : Role) (config : Config) (t : Tunnel) (moves : List Move) (bytes : List ℕ) (o : Origin) : Type 0 where
+  ALetter : is_current (mode_of t.recovery) ≡ true → (l : wire.Letter) (number : ℕ) → number < 2 ^ 64 → letter_at t number ≡ Some l
       → o ≡ origin.Control (record { tunnel = t.control.local; ns = number; nr = t.control.channel.inbox.taken; empty = false })
       → bytes ≡ control_bytes t.control.remote l.session (on_wire number) (on_wire t.control.channel.inbox.taken) l.avps
-      → Carries t moves bytes o
-  Nothing : (number : ℕ)
+      → Carries role config t moves bytes o
+  Nothing : is_current (mode_of t.recovery) ≡ true → (number : ℕ)
       → o ≡ origin.Control (record { tunnel = t.control.local; ns = number; nr = t.control.channel.inbox.taken; empty = true })
-      → bytes ≡ control_bytes t.control.remote 0 (on_wire number) (on_wire t.control.channel.inbox.taken) [] → Carries t moves bytes o
+      → bytes ≡ control_bytes t.control.remote 0 (on_wire number) (on_wire t.control.channel.inbox.taken) [] → Carries role config t moves bytes o
   AFrame : (f : FrameSent) → Among (move.FrameSent f) moves → f.tunnel ≡ t.control.local → f.peer ≡ t.control.peer → FitsWord f.number
-      → o ≡ origin.Data f.session → bytes ≡ data_bytes t.control.remote f.remote f.number f.frame → Carries t moves bytes o
-  InRecovery : (r : Recovering) → t.recovery ≡ Some r → (m : Message) → IsOfRecovery t.control.local r m → (number nr : ℕ)
+      → o ≡ origin.Data f.session → bytes ≡ data_bytes t.control.remote f.remote f.number f.frame → Carries role config t moves bytes o
+  InRecovery : (r : Recovering) → t.recovery ≡ Some r → (m : Message) → IsOfRecovery role config t.control.local r m → (number nr : ℕ) → nr < 65536
       → o ≡ origin.Recovery (connection_of r).local number false
-      → bytes ≡ control_bytes (connection_of r).remote 0 (on_wire number) nr (spelling (pairs_of m)) → Carries t moves bytes o
-  NothingInRecovery : (r : Recovering) → t.recovery ≡ Some r → (number nr : ℕ) → o ≡ origin.Recovery (connection_of r).local number true
-      → bytes ≡ control_bytes (connection_of r).remote 0 (on_wire number) nr [] → Carries t moves bytes o
+      → bytes ≡ control_bytes (connection_of r).remote 0 (on_wire number) nr (spelling (pairs_of m)) → Carries role config t moves bytes o
+  NothingInRecovery : (r : Recovering) → t.recovery ≡ Some r → (number nr : ℕ) → nr < 65536 → o ≡ origin.Recovery (connection_of r).local number true
+      → bytes ≡ control_bytes (connection_of r).remote 0 (on_wire number) nr [] → Carries role config t moves bytes o
 
 -- a frame that a move sends is in an output
 abbrev pub HasOutput : List Out → Move → Type 0

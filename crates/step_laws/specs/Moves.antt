@@ -573,6 +573,7 @@ pub record ResetsAnswering (e : End) (moment : ℕ) (ev : Event) (m : ResetAnswe
   pub right : is_wrong 3 e.config.secret old.connection.challenge response ≡ false
   pub new : Answering
   pub same : (new.connection.local ≡ m.answer) × (new.connection.remote ≡ m.attempt) × (new.connection.reset ≡ Some moment) × (new.suggested ≡ old.suggested)
+      × (new.connection.draw ≡ old.connection.draw)
   pub after : x ≡ with_tunnel e m.tunnel (begun_anew m.send_from m.expect tunnel.control.mark (ByAnswer new) tunnel)
 
 -- an SCCRP came to an attempt that waits, and assigns this id

@@ -92,6 +92,8 @@ pub record Accepts (e : End) (moment : ℕ) (ev : Event) (m : Accepted) (x : End
   pub few : length e.tunnels < 1024
   pub opening : Opening
   pub hears : (session : ℕ) × Hears ev m.peer session (Sccrq opening)
+  -- it asks for no recovery
+  pub unrecovered : opening.recovery ≡ None
   pub remote : m.remote ≡ opening.tunnel
   pub window : m.window ≡ opening.window
   pub alone : IsUnknown e m.peer m.remote

@@ -5,6 +5,8 @@ use Rattle.id_table.specs.Ids.{at}
 use Rattle.id_table.specs.Order.{Ascends}
 use Rattle.tunnel_fsm.specs.Rows.{state_number}
 use Rattle.wire_base.specs.declared.letter.Side.{Side}
+use Rattle.end_names.specs.declared.role.Role.{Role}
+use Rattle.end_model.specs.declared.tunnel.Config.{Config}
 use Rattle.end_model.specs.declared.event.Event.{Event}
 use Rattle.end_model.specs.declared.out.Out.{Out}
 use Rattle.end_model.specs.declared.out.Out.TheVariants.{Send, Up, Gone, Drop, Cause}
@@ -27,7 +29,7 @@ use Rattle.step_laws.specs.Moves.{Chain}
 -- as its window counts. These and the letters that its calls owe are fewer than 8,192, the most that a channel holds, as long as it
 -- isn't closed; so there is room for one more then, also for a HELLO of an open tunnel, which comes where no letter waits. A closed
 -- tunnel has no calls, and gives nothing more
-pub record IsKept (i : ℕ) (t : Tunnel) : Type 0 where
+pub record IsKept (role : Role) (config : Config) (i : ℕ) (t : Tunnel) : Type 0 where
   pub local : t.control.local ≡ i
   pub some : i ≡ 0 → ⊥
   pub busy : state_number t.control.state ≡ 0 → ⊥
@@ -43,11 +45,11 @@ pub record IsKept (i : ℕ) (t : Tunnel) : Type 0 where
   -- the channel of one that is frozen or restored gives nothing
   pub frozen : is_current (mode_of t.recovery) ≡ false → t.control.channel.frozen ≡ true
   -- what its recovery tunnel holds is of a recovery
-  pub recovering : (r : Recovering) → t.recovery ≡ Some r → AllByRecursion (IsRecoveryLetter i r) (connection_of r).channel.outbox.letters
+  pub recovering : (r : Recovering) → t.recovery ≡ Some r → AllByRecursion (IsRecoveryLetter role config i r) (connection_of r).channel.outbox.letters
 
 -- so are all tunnels of an end, and its tables ascend
 pub record AreKept (e : End) : Type 0 where
-  pub tunnels : (i : ℕ) (t : Tunnel) → at e.tunnels i ≡ Some t → IsKept i t
+  pub tunnels : (i : ℕ) (t : Tunnel) → at e.tunnels i ≡ Some t → IsKept e.role e.config i t
   pub order : Ascends e.tunnels
   pub places : Ascends e.calls
   -- ids have 16 bits, and tunnels none that is 0
@@ -71,7 +73,7 @@ pub record IsSent (moment : ℕ) (ev : Event) (e : End) (moves : List Move) (x :
   pub tunnel : Tunnel
   pub there : at amid.end.tunnels id ≡ Some tunnel
   pub peer_is : peer ≡ tunnel.control.peer
-  pub carries : Carries tunnel amid.made bytes o
+  pub carries : Carries amid.end.role amid.end.config tunnel amid.made bytes o
 
 -- what is sent for no tunnel is the StopCCN of an opening that a move declines
 pub record IsDecline (moves : List Move) (peer : ℕ) (bytes : List ℕ) (o : Origin) : Type 0 where

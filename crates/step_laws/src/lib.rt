@@ -25,7 +25,7 @@ pub fn steps_are_chains()
     ensures { StepsAreChains }
 {}
 
-/// A start over a whole book is such a chain too, whatever event comes then: from an end without tunnels, each tunnel that was kept comes back
+/// A start over a sound book is such a chain too, whatever event comes then: from an end without tunnels, each tunnel that was kept comes back
 /// with its calls and an attempt at its recovery, and the links of its calls are opened; or it is forgotten. The tunnels that are there
 /// then are kept.
 pub fn starts_are_chains()
