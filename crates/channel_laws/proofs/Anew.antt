@@ -157,13 +157,14 @@ module _ (h k : History) (n i e : ℕ) (new : Account) (b : Begins h k n i e new
   }
 
   pub attempt_on : (m a : ℕ) (r : Restored) → AttemptOk h m a r → AttemptOk k m a r
-  attempt_on m a r ok = record { own = ok.own; some = ok.some; fits = ok.fits; booked = booked_on m r.tunnel ok.booked }
+  attempt_on m a r ok = record { own = ok.own; some = ok.some; fits = ok.fits; draw_fits = ok.draw_fits; booked = booked_on m r.tunnel ok.booked }
 
   pub answer_on : (w : World) (m c : ℕ) (f : Froze) → AnswerOk w h m c f → AnswerOk w k m c f
   answer_on w m c f ok = record {
     own = ok.own;
     some = ok.some;
     fits = ok.fits;
+    draw_fits = ok.draw_fits;
     peer_fits = ok.peer_fits;
     peer_is = ok.peer_is;
     linked = linked_on m f.tunnel (node_of f.peer) f.remote ok.linked;

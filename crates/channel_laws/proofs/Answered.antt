@@ -1,5 +1,5 @@
 -- What holds goes on to hold where one more answer is known, and where epochs are made and none is entered.
-use Rattle.std.proofs.Common.{◌≡◌, inl, inr, ⊎_elim, ℕ, true, List, [], ◌∷◌, refl, sym, ap, ◌∙◌, subst, Option, Some, None, arith}
+use Rattle.std.proofs.Common.{◌≡◌, inl, inr, ⊎_elim, ℕ, true, false, List, [], ◌∷◌, refl, sym, ap, ◌∙◌, subst, Option, Some, None, arith}
 use Rattle.std.specs.Prelude.{is_some}
 use Rattle.std.specs.List.{AllByRecursion}
 use Rattle.session_book.specs.declared.record.BookTunnel.{BookTunnel}
@@ -16,18 +16,24 @@ use Rattle.world_model.specs.World.{World, standing_of, epoch_of}
 use Rattle.channel_laws.specs.Accounts.{Part, Unmade, Opener, Acceptor, Renewed, Account, History}
 use Rattle.channel_laws.specs.Facts.{makes, BookedOk, AnswerOk, AttemptOk, BeginsBy, AsGiver, AsPeer, IsRenewed, IsPart, AccountOk, ChannelOk, IsRecovered, LiveOk, BookOk, StandingOk, SaysRecovery, AsksFor, Suggests, Confirms, Refuses, OriginOk, PacketOk}
 
+-- what is there stays there
+still_some : (o q : Option Froze) → ((f : Froze) → o ≡ Some f → q ≡ Some f) → is_some o ≡ true → is_some q ≡ true
+still_some None q keep is = let no : false ≡ true = is in absurd cc
+still_some (Some f) q keep is = ap is_some (keep f refl)
+
 -- ---- no epoch is entered, and no channel is lost
 
 module _ (w v : World) (h : History) (epochs : (n i : ℕ) → epoch_of v n i ≡ epoch_of w n i) (losts : (n i : ℕ) → (standing_of v n i).lost ≡ (standing_of w n i).lost)
     (makes_as : (n c : ℕ) (f : Froze) → h.answers n c ≡ Some f → makes v n c ≡ makes w n c) where
   recovered_stays : (n i : ℕ) (r : Recovering) → IsRecovered w h n i r → IsRecovered v h n i r
-  recovered_stays n i (ByAttempt c) (k, reset) = (
+  recovered_stays n i (ByAttempt c) (k, reset, named) = (
     k,
     λ is. (let q = reset is in
-        let e = epochs n i in let m = makes_as (h.accounts n i 0).peer c.remote q.0 q.1 in let le = q.4 in (q.0, q.1, q.2, q.3, omega (arith, e, m, le))),
+        let e = epochs n i in let m = makes_as (h.accounts n i 0).peer c.remote q.0 q.1 in let le = q.4 in (q.0, q.1, q.2, q.3, omega (arith, e, m, le), q.5)),
+    named,
   )
   recovered_stays n i (ByAnswer a) k =
-      (k.0, k.1, k.2, k.3, k.4, λ is. (let e = epochs n i in let m = makes_as n a.connection.local k.0 k.1 in let le = k.5 is in omega (arith, e, m, le)))
+      (k.0, k.1, k.2, k.3, k.4, λ is. (let e = epochs n i in let m = makes_as n a.connection.local k.0 k.1 in let le = k.5 is in omega (arith, e, m, le)), k.6)
 
   pub live_stays : (n i : ℕ) (t : Tunnel) → LiveOk w h n i t → LiveOk v h n i t
   live_stays n i t ok = record {
@@ -105,13 +111,14 @@ module _ (w : World) (h : History) (answers : ℕ → ℕ → Option Froze) (kep
   book_more n k ok = record { tunnels = λ i b is. booked_more n b (ok.tunnels i b is); apart = ok.apart }
 
   pub attempt_more : (n a : ℕ) (m : Restored) → AttemptOk h n a m → AttemptOk more n a m
-  attempt_more n a m ok = record { own = ok.own; some = ok.some; fits = ok.fits; booked = booked_more n m.tunnel ok.booked }
+  attempt_more n a m ok = record { own = ok.own; some = ok.some; fits = ok.fits; draw_fits = ok.draw_fits; booked = booked_more n m.tunnel ok.booked }
 
   pub answer_more : (n c : ℕ) (f : Froze) → AnswerOk w h n c f → AnswerOk w more n c f
   answer_more n c f ok = record {
     own = ok.own;
     some = ok.some;
     fits = ok.fits;
+    draw_fits = ok.draw_fits;
     peer_fits = ok.peer_fits;
     peer_is = ok.peer_is;
     linked = ok.linked;
@@ -125,8 +132,15 @@ module _ (w : World) (h : History) (answers : ℕ → ℕ → Option Froze) (kep
   }
 
   recovered_more : (n i : ℕ) (r : Recovering) → IsRecovered w h n i r → IsRecovered w more n i r
-  recovered_more n i (ByAttempt c) (k, reset) = (k, λ is. (let q = reset is in (q.0, kept (h.accounts n i 0).peer c.remote q.0 q.1, q.2, q.3, q.4)))
-  recovered_more n i (ByAnswer a) k = (k.0, kept n a.connection.local k.0 k.1, k.2, k.3, k.4, k.5)
+  recovered_more n i (ByAttempt c) (k, reset, named) = (
+    k,
+    λ is. (let q = reset is in (q.0, kept (h.accounts n i 0).peer c.remote q.0 q.1, q.2, q.3, q.4, q.5)),
+    ⊎_elim
+        (λ none. inl none)
+        (λ is. inr (still_some (h.answers (h.accounts n i 0).peer c.remote) (more.answers (h.accounts n i 0).peer c.remote) (λ f there. kept (h.accounts n i 0).peer c.remote f there) is))
+        named,
+  )
+  recovered_more n i (ByAnswer a) k = (k.0, kept n a.connection.local k.0 k.1, k.2, k.3, k.4, k.5, k.6)
 
   pub live_more : (n i : ℕ) (t : Tunnel) → LiveOk w h n i t → LiveOk w more n i t
   live_more n i t ok = record {

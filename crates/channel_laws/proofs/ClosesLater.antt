@@ -205,7 +205,7 @@ module _ (codecs : Codecs) (again : WrittenIsRead) (room : WrittenHasRoom) (clas
       let alike = end_alike w n node x k.there in
       let live = live_later codecs again room classes w h n node sender moment ev mv x d k t o.there o.current later plain v refl alike in
       let channel = channel_so codecs again room classes w h n node sender moment ev mv x d k t o.there o.current later plain v refl alike in
-      let fits = k.counts i t o.there in
+      let fits = k.counts i t o.there o.current in
       let puts = puts_so node.end x (with_tunnel node.end i u) i u o.after (record { config = refl; role = refl; tunnels = refl }) in
       let ids = ap (λ (y : End). y.tunnel_ids) o.after in
       ⊎_elim
@@ -263,7 +263,7 @@ module _ (codecs : Codecs) (again : WrittenIsRead) (room : WrittenHasRoom) (clas
       let plain = deed_plain d mv k.deed.move_is (λ p j. refl) (λ p q z. refl) (λ p q z. refl) in
       let alike = end_alike w n node x k.there in
       let channel = channel_so codecs again room classes w h n node sender moment ev mv x d k t o.there o.current later plain v refl alike in
-      let fits = k.counts i t o.there in
+      let fits = k.counts i t o.there o.current in
       let stands = state_so codecs again room classes w h n node sender moment ev mv x d k t o.there o.current later plain v refl alike in
       let open_is : IsOpen a = ⊎_elim
       (λ (q : (state_number t.control.state ≡ 3) × IsOpen (h.accounts n m.tunnel (epoch_of w n m.tunnel))). q.1)
@@ -465,7 +465,7 @@ module _ (codecs : Codecs) (again : WrittenIsRead) (room : WrittenHasRoom) (clas
       subst (λ (nr : ℕ). IsCount wd f.o.nr (count_acked wd nr)) (sym (o.tells.tells ∙ f.nr))
       (is_count wd f.o.nr near (omega (arith, told, there, sum, acks, few)) (omega (arith, out, few))) in
       let le = counted.few in
-      let fits = k.numbers i t o.there in
+      let fits = k.numbers i t o.there o.current in
       let left : IsWithout wd count wo = without_count wd count moment le out (omega (arith, le, out, few, fits)) in
       let new_acked = left.acked in
       let new_queued = left.queued in

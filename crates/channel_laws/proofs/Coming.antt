@@ -79,7 +79,7 @@ module _ (w : World) (h : History) (holds : Holds w h) where
       (λ k. ⊎_elim (λ is. attempt_fits p.to r.named is) (λ is. answer_fits p.to r.named is) k)
       r.names
 
-  refused_fits : (p : Packet) (o : ControlOrigin) → (r : IsRefusal h p o) → r.tunnel < 65536
+  pub refused_fits : (p : Packet) (o : ControlOrigin) → (r : IsRefusal h p o) → r.tunnel < 65536
   refused_fits p o r = ⊎_elim
       (λ k. (holds.accounts p.to r.tunnel 0).id (λ none. let two : Opener ≡ _ = sym k.0 ∙ none in absurd cc))
       (λ k. (holds.attempts p.to r.tunnel k.0 k.1).fits)

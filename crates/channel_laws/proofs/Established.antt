@@ -150,3 +150,28 @@ module _ (w : World) (h : History) (holds : Holds w h) where
 
     pub know_each_other : AreLinked h.accounts n i m j
     know_each_other = by here.knows there.knows
+
+  -- ---- a tunnel that knows its other end, which knows it then
+
+  module _ (n i m j : ℕ) (made : IsMade (h.accounts n i 0)) (other_made : IsMade (h.accounts m j 0)) (peer : (h.accounts n i 0).peer ≡ m)
+      (back_peer : (h.accounts m j 0).peer ≡ n) (here : KnowsOwn h.accounts n i j)
+      (learned : (h.accounts m j 0).part ≡ Acceptor → (partner_in h.accounts 0 (h.accounts m j 0)).remote ≡ j)
+      (late : (h.accounts m j 0).closed ≡ Some 0 → ⊥) where
+    back_by : KnowsBy h.accounts n i j → (h.accounts m j 0).remote ≡ i
+    back_by (ByLetter forth) =
+        let there : 0 < j = (holds.accounts m j 0).some other_made in
+        let same : (h.accounts m j 0).remote ≡ (partner_in h.accounts 0 (h.accounts n i 0)).remote =
+        ap₂ (λ x y. (h.accounts x y 0).remote) (sym peer) (sym forth) in
+        ⊎_elim
+        (λ (is : (h.accounts n i 0).part ≡ Opener).
+        let o = (opener_of w h n i 0 (h.accounts n i 0) (holds.accounts n i 0) is).1 in
+        same ∙ o.remote (λ z. absurd (omega (arith, z, forth, there))))
+        (λ k. ⊎_elim
+        (λ (is : (h.accounts n i 0).part ≡ Acceptor). same ∙ here.learned is)
+        (λ (is : (h.accounts n i 0).part ≡ Renewed). let lt = (renewed_of w h n i 0 (h.accounts n i 0) (holds.accounts n i 0) is).later in absurd (omega (arith, lt)))
+        k)
+        (part_cases (h.accounts n i 0).part made)
+    back_by (ByRecord part none acceptor home own) = ap (λ x. (h.accounts x j 0).remote) (sym peer) ∙ own
+
+    pub known_by_one : AreLinked h.accounts n i m j
+    known_by_one = know_each_other n i m j made other_made peer back_peer here (record { knows = ByLetter (back_by here.knows); learned = learned; late = late })

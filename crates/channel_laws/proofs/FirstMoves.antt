@@ -211,7 +211,7 @@ module _ (laws : calm_steps.MovesKeep) (codecs : Codecs) (again : WrittenIsRead)
     accounts_to p j = account_to w h p j (k.holds.accounts p j 0)
 
     live_bare : calm_facts.LiveOk (calm_of h) n i (calm_of h n i) (bare t)
-    live_bare = live_to h n i t (none_renewed n i) from_none.0 from_none.1 live_zero.local live_zero.calls (k.kept.tunnels i t there).calls channel_zero
+    live_bare = live_to h n i t (none_renewed n i) from_none.0 from_none.1 live_zero.local live_zero.calls (k.fit.tables.tunnels i t there).order channel_zero
 
     one_there : (j : ℕ) (q : Tunnel) → at (put [] i (bare t)) j ≡ Some q → (j ≡ i) × (bare t ≡ q)
     one_there j q at_j = ⊎_elim
@@ -228,10 +228,10 @@ module _ (laws : calm_steps.MovesKeep) (codecs : Codecs) (again : WrittenIsRead)
       node = both_ok.0.node;
       number = both_ok.0.number;
       lns = both_ok.0.lns;
-      first = k.kept.first;
+      first = k.fit.tables.first_tunnel;
       last = (let is = k.fit.tunnel_ids.last in omega (arith, is));
       first_session = k.fit.tables.first_session;
-      last_session = k.kept.sessions;
+      last_session = (let is = k.fit.session_ids.last in omega (arith, is));
       order = alone_ascends;
       drawn = λ j made. both_ok.0.ids.tunnels j (λ none. made (ap calm_part none));
       live = λ j q at_j. (let s = one_there j q at_j in
@@ -242,8 +242,8 @@ module _ (laws : calm_steps.MovesKeep) (codecs : Codecs) (again : WrittenIsRead)
     moved_to : calm_facts.Within (calm_steps.after (calm_of h) d) n x0 sender ev
     moved_to = laws (calm_of h) n (alone_in node.end i t) x0 sender moment ev m d (record {
       within = record { accounts = accounts_to; end = end_to; comes = comes };
-      numbers = λ j q at_j. (let s = one_there j q at_j in subst (λ (y : Tunnel). y.control.channel.window.acked + 8192 < 2 ^ 64) s.1 (k.numbers i t there));
-      counts = λ j q at_j. (let s = one_there j q at_j in subst (λ (y : Tunnel). y.control.channel.inbox.taken + 1 < 2 ^ 64) s.1 (k.counts i t there));
+      numbers = λ j q at_j. (let s = one_there j q at_j in subst (λ (y : Tunnel). y.control.channel.window.acked + 8192 < 2 ^ 64) s.1 (k.numbers i t there current));
+      counts = λ j q at_j. (let s = one_there j q at_j in subst (λ (y : Tunnel). y.control.channel.inbox.taken + 1 < 2 ^ 64) s.1 (k.counts i t there current));
       does = does;
       main = main;
       deed = k.deed;

@@ -32,8 +32,8 @@ use Rattle.frame_laws.specs.Written.{IsWritten as IsWrittenPlainly}
 use Rattle.frame_laws.specs.Plain.{IsReadAs, AsAMessage, AsAFault, message_there, no_message_there}
 use Rattle.book_laws.proofs.Finished.{finished_found}
 use Rattle.connection_laws.proofs.Hearing.{no_message, same_address}
-use Rattle.channel_laws.specs.Accounts.{Account, History, about, declined_in, declines_of, entered_by, after_deed, attempts_by, answers_by, after}
-use Rattle.channel_laws.specs.Facts.{IsMade, makes, AreLinked, BookedOk, AnswerOk, AttemptOk, IsRecovered, LiveOk, IdsOk, EndOk, BookOk, NodeOk, StandingOk, SaysRecovery, AsksFor, Suggests, Confirms, Refuses, PacketOk, Holds}
+use Rattle.channel_laws.specs.Accounts.{Acceptor, Account, History, about, declined_in, declines_of, entered_by, after_deed, attempts_by, answers_by, after}
+use Rattle.channel_laws.specs.Facts.{IsMade, partner_in, makes, AreLinked, BookedOk, AnswerOk, AttemptOk, IsRecovered, LiveOk, IdsOk, EndOk, BookOk, NodeOk, StandingOk, SaysRecovery, AsksFor, Suggests, Confirms, Refuses, PacketOk, Holds}
 use Rattle.channel_laws.specs.Recoveries.{WrittenIsRead, WrittenHasRoom}
 use Rattle.channel_laws.specs.Steps.{with_end, moves_on, IsMoved}
 use Rattle.channel_laws.proofs.Growing.{Grows, account_grows, answers_grow, packets_grow}
@@ -42,7 +42,7 @@ use Rattle.channel_laws.proofs.Entering.{base_here, base_other, base_same, base_
 use Rattle.channel_laws.proofs.Making.{SameNode, IsThere, there_still, same_answer, same_then, MadeOnly, has_made_only, answered, answers_so, answered_here, answered_other, answered_standing, own_answer, other_answer}
 use Rattle.channel_laws.proofs.Answered.{live_stays, account_more, book_more, attempt_more, answer_more, live_more, standing_more, packets_more}
 use Rattle.channel_laws.proofs.Waiting.{not_reset, node_again, waits_inactive}
-use Rattle.channel_laws.proofs.Established.{KnowsOwn, established_knows, know_each_other}
+use Rattle.channel_laws.proofs.Established.{KnowsOwn, established_knows, known_by_one}
 use Rattle.channel_laws.proofs.Coming.{FromTunnel, OfNoTunnel, OfRecovery, heard}
 
 -- what is written by the rules of runs without recoveries asks for none
@@ -54,20 +54,14 @@ plain_unasked l body o (AsAMessage avps y pairs reads written alike) said =
 plain_unasked l body o (AsAFault avps own serial number is fits pairs fault kind told) said =
     let both = sym (no_message_there body avps own pairs fault kind told) ∙ said in absurd cc
 
--- what a book has of a tunnel, or an attempt that was made of it, says what the tunnel knows
-booked_knows : (h : History) (q : ℕ) (b : BookTunnel) → BookedOk h q b → (j i : ℕ) → b.local ≡ j → b.remote ≡ i → KnowsOwn h.accounts q j i
-booked_knows h q b ok j i local remote =
-    subst (λ y. KnowsOwn h.accounts q y i) local (subst (λ y. KnowsOwn h.accounts q b.local y) remote (record { knows = ok.knows; learned = ok.learned; late = ok.late }))
-
 -- the attempt that asks for the recovery of a tunnel
-record IsAsked (h : History) (n i remote peer attempt : ℕ) : Type 0 where
+record IsAsked (h : History) (n remote peer attempt : ℕ) : Type 0 where
   from : ℕ
   from_fits : from < 256
   address : peer ≡ address_of from
   tried : Restored
   there : h.attempts from attempt ≡ Some tried
   local_is : tried.tunnel.local ≡ remote
-  remote_is : tried.tunnel.remote ≡ i
   goes : tried.tunnel.peer ≡ address_of n
 
 module _ (codecs : Codecs) (again : WrittenIsRead) (room : WrittenHasRoom) (w : World) (h : History) (n : ℕ) (node : Node) (sender : Option Sender) (moment : ℕ) (ev : Event)
@@ -90,26 +84,25 @@ module _ (codecs : Codecs) (again : WrittenIsRead) (room : WrittenHasRoom) (w : 
   -- ---- what asks for it
 
   by_message : (p : Packet) (own named : ℕ) (q : Message) → SaysRecovery w h p own named q → q ≡ Sccrq does.opening → p.from < 256 → p.to ≡ n → m.peer ≡ address_of p.from
-      → IsAsked h n i m.remote m.peer m.attempt
+      → IsAsked h n m.remote m.peer m.attempt
   by_message p own named _ (AsksFor r o is peer id recovery draw) same fits to from =
       let one : o ≡ does.opening = cc in
-      let both = sym recovery ∙ (ap (λ (y : Opening). y.recovery) one ∙ does.named) in
-      let names : ◌≡◌ {A = Recovery} (record { sender = r.tunnel.local; receiver = r.tunnel.remote }) (record { sender = m.remote; receiver = m.tunnel }) = cc in
+      let both = sym recovery.1 ∙ (ap (λ (y : Opening). y.recovery) one ∙ does.named) in
+      let names : ◌≡◌ {A = Recovery} recovery.0 (record { sender = m.remote; receiver = m.tunnel }) = cc in
       record {
         from = p.from;
         from_fits = fits;
         address = from;
         tried = r;
         there = ap (h.attempts p.from) (does.attempt ∙ (ap (λ (y : Opening). y.tunnel) (sym one) ∙ id)) ∙ is;
-        local_is = ap (λ (y : Recovery). y.sender) names;
-        remote_is = ap (λ (y : Recovery). y.receiver) names;
+        local_is = sym recovery.2 ∙ ap (λ (y : Recovery). y.sender) names;
         goes = peer ∙ ap address_of to;
       }
   by_message p own named _ (Suggests f o is to id suggested attempt) same fits to_n from = absurd cc
   by_message p own named _ (Confirms f response is attempt from_is le) same fits to_n from = absurd cc
   by_message p own named _ (Refuses result error fit) same fits to_n from = absurd cc
 
-  asked : IsAsked h n i m.remote m.peer m.attempt
+  asked : IsAsked h n m.remote m.peer m.attempt
   asked = ⊎_elim
       (λ (f : FromTunnel w h n node.end sender does.letter does.came.bytes). ⊎_elim
       (λ q.
@@ -138,11 +131,12 @@ module _ (codecs : Codecs) (again : WrittenIsRead) (room : WrittenHasRoom) (w : 
   link_from : AreLinked h.accounts n i asked.from m.remote
   link_from =
       let b = tried_ok.booked in
-      know_each_other w h k.holds n i asked.from m.remote live.made (subst (λ j. IsMade (h.accounts asked.from j 0)) asked.local_is b.made)
+      known_by_one w h k.holds n i asked.from m.remote live.made (subst (λ j. IsMade (h.accounts asked.from j 0)) asked.local_is b.made)
       (same_address _ _ (sym live.peer ∙ (sym does.peer ∙ asked.address)))
       (ap (λ j. (h.accounts asked.from j 0).peer) (sym asked.local_is) ∙ same_address _ _ (sym b.peer ∙ asked.goes))
       (subst (KnowsOwn h.accounts n i) (sym does.remote) (established_knows w h k.holds n i does.tunnel live does.open_is))
-      (booked_knows h asked.from asked.tried.tunnel b m.remote i asked.local_is asked.remote_is)
+      (subst (λ j. (h.accounts asked.from j 0).part ≡ Acceptor → (partner_in h.accounts 0 (h.accounts asked.from j 0)).remote ≡ j) asked.local_is b.learned)
+      (subst (λ j. (h.accounts asked.from j 0).closed ≡ Some 0 → ⊥) asked.local_is b.late)
 
   link : AreLinked h.accounts n i other m.remote
   link = subst (λ q. AreLinked h.accounts n i q m.remote) (sym other_is) link_from
@@ -337,7 +331,7 @@ module _ (codecs : Codecs) (again : WrittenIsRead) (room : WrittenHasRoom) (w : 
 
   answer_ok : AnswerOk v later n m.answer m
   answer_ok =
-      let first = k.kept.first in
+      let first = k.fit.tables.first_tunnel in
       let next = drawn.0 in
       let most = drawn.1 in
       let last = k.fit.tunnel_ids.last in
@@ -347,6 +341,7 @@ module _ (codecs : Codecs) (again : WrittenIsRead) (room : WrittenHasRoom) (w : 
         own = refl;
         some = omega (arith, first, next);
         fits = omega (arith, most, last);
+        draw_fits = (let low = (draw_is node.end.recovery_ids m.draw does.draw).1 in let top = k.fit.recovery_ids.last in omega (arith, low, top));
         peer_fits = (let lt = asked.from_fits in let same = other_is in omega (arith, lt, same));
         peer_is = asked.address ∙ ap address_of (sym other_is);
         linked = link;
@@ -378,6 +373,7 @@ module _ (codecs : Codecs) (again : WrittenIsRead) (room : WrittenHasRoom) (w : 
     sym does.is.remote_is,
     does.is.suggested_is,
     λ reset. absurd (unfinished does.is.answering.connection does.is.waits reset),
+    sym does.is.draw_is,
   )
 
   knows_own : KnowsOwn h.accounts n i does.tunnel.control.remote
@@ -396,7 +392,7 @@ module _ (codecs : Codecs) (again : WrittenIsRead) (room : WrittenHasRoom) (w : 
     learned = λ inactive. knows_own.learned;
     recovery = λ r is. (let same : r ≡ ByAnswer does.is.answering = (let a : does.recovery ≡ r = cc in sym a ∙ does.is.is) in subst (IsRecovered v later n i) (sym same) recovered);
     unattempted = λ early. (let three = does.open_is in absurd (omega (arith, three, early)));
-    calls = λ s c there. live.calls s c (finished_found does.tunnel.calls (k.kept.tunnels i does.tunnel does.there).calls s c there);
+    calls = λ s c there. live.calls s c (finished_found does.tunnel.calls (k.fit.tables.tunnels i does.tunnel does.there).order s c there);
   }
 
   -- ---- the node

@@ -210,7 +210,7 @@ module _ (w : World) (h : History) (n : ℕ) (node : Node) (sender : Option Send
         plain = tt;
         told = tt;
         room = o.room;
-        remotes = λ s c f. live.calls s c (found_without t.calls m.session s c (k.kept.tunnels m.tunnel t o.there).calls f).1;
+        remotes = λ s c f. live.calls s c (found_without t.calls m.session s c (k.fit.tables.tunnels m.tunnel t o.there).order f).1;
         three = told_open h.accounts m.tunnel (epoch_of w n m.tunnel) (h.accounts n m.tunnel (epoch_of w n m.tunnel)) t node.end.role o.on m.session o.call o.live o.row
             (h.accounts n m.tunnel (epoch_of w n m.tunnel)).part channel.state;
       })

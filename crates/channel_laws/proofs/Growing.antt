@@ -22,6 +22,7 @@ module _ (w v : World) (h : History) (g : Grows w v h) where
     own = ok.own;
     some = ok.some;
     fits = ok.fits;
+    draw_fits = ok.draw_fits;
     peer_fits = ok.peer_fits;
     peer_is = ok.peer_is;
     linked = ok.linked;

@@ -198,6 +198,7 @@ module _ (w v : World) (h k : History) (n i e : ℕ) (only : IsOnly h k n i e) (
     own = ok.own;
     some = ok.some;
     fits = ok.fits;
+    draw_fits = ok.draw_fits;
     booked = booked_later m r.tunnel (⊎_elim
         (λ (q : (m ≡ n) × (r.tunnel.local ≡ i)).
         subst (λ z. IsSettled z r.tunnel.local) (sym q.0) (subst (IsSettled n) (sym q.1)
@@ -233,6 +234,7 @@ module _ (w v : World) (h k : History) (n i e : ℕ) (only : IsOnly h k n i e) (
         own = ok.own;
         some = ok.some;
         fits = ok.fits;
+        draw_fits = ok.draw_fits;
         peer_fits = ok.peer_fits;
         peer_is = ok.peer_is;
         linked = linked_later m f.tunnel (node_of f.peer) f.remote ok.linked;
@@ -469,14 +471,16 @@ module _ (w v : World) (h k : History) (n i e : ℕ) (only : IsOnly h k n i e) (
     -- ---- recovery tunnels
 
     pub recovered_later : (m j : ℕ) → IsMade (h.accounts m j 0) → (r : Recovering) → IsRecovered w h m j r → IsRecovered v k m j r
-    recovered_later m j made (ByAttempt c) (q, reset) = (
+    recovered_later m j made (ByAttempt c) (q, reset, named) = (
       (q.0, only.attempts m c.local ∙ q.1, q.2, q.3),
       λ is. (let s = reset is in
           let now = epochs m j in
           let makes_it = alike.makes_as (h.accounts m j 0).peer c.remote in
           let le = s.4 in
-          subst (λ p. (f : Froze) × (k.answers p c.remote ≡ Some f) × (f.remote ≡ j) × (f.attempt ≡ c.local) × (makes v p c.remote ≤ epoch_of v m j)) (sym ((grown m j 0).peer made))
-          (s.0, only.answers (h.accounts m j 0).peer c.remote ∙ s.1, s.2, s.3, omega (arith, now, makes_it, le))),
+          subst (λ p. (f : Froze) × (k.answers p c.remote ≡ Some f) × (f.remote ≡ j) × (f.attempt ≡ c.local) × (makes v p c.remote ≤ epoch_of v m j) × (node_of f.peer ≡ m)) (sym ((grown m j 0).peer made))
+          (s.0, only.answers (h.accounts m j 0).peer c.remote ∙ s.1, s.2, s.3, omega (arith, now, makes_it, le), s.5)),
+      subst (λ p. (c.remote ≡ 0) ⊎ (is_some (k.answers p c.remote) ≡ true)) (sym ((grown m j 0).peer made))
+          (⊎_elim (λ none. inl none) (λ is. inr (ap is_some (only.answers (h.accounts m j 0).peer c.remote) ∙ is)) named),
     )
     recovered_later m j made (ByAnswer a) q = (
       q.0,
@@ -485,6 +489,7 @@ module _ (w v : World) (h k : History) (n i e : ℕ) (only : IsOnly h k n i e) (
       q.3,
       q.4,
       λ is. (let now = epochs m j in let makes_it = alike.makes_as m a.connection.local in let le = q.5 is in omega (arith, now, makes_it, le)),
+      q.6,
     )
 
     -- ---- other live tunnels

@@ -22,6 +22,7 @@ mod Established
 mod Readings
 mod Coming
 mod Naming
+mod Replying
 mod Freezing
 mod ResetsAttempting
 mod Recoveries
@@ -45,3 +46,14 @@ pub mod LaterMoves
 pub mod TakesLater
 pub mod ClosesLater
 mod Takings
+pub mod Opening
+pub mod Accepting
+pub mod Declining
+mod Beginnings
+mod RecoveryLetters
+mod ControlSent
+mod OfEnds
+mod Inactive
+mod Agreeing
+mod Numbering
+mod Nearness

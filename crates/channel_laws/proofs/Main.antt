@@ -61,7 +61,7 @@ module _ (w : World) (h : History) (p : Packet) (own named r : ℕ) (avps : List
   -- none opens a tunnel
   opens_none : (m : Message) → SaysRecovery w h p own named m → zero_read avps (Ok (Known m)) ≡ Opens r → ⊥
   unfolding zero_read
-  opens_none _ (AsksFor q o is peer id recovery draw) to = let no : ⊥ = (let two = rw recovery at to in cc) in no
+  opens_none _ (AsksFor q o is peer id recovery draw) to = let no : ⊥ = (let same = recovery.1 in let two = rw same at to in cc) in no
   opens_none _ (Suggests f o is to_node id suggested attempt) to = cc
   opens_none _ (Confirms f response is attempt from le) to = cc
   opens_none _ (Refuses result error fit) to = by (own == 0) to
@@ -73,7 +73,7 @@ module _ (w : World) (h : History) (p : Packet) (own named r : ℕ) (avps : List
   -- one that stops a tunnel tells its own id
   stops_own : (m : Message) → SaysRecovery w h p own named m → zero_read avps (Ok (Known m)) ≡ Stops r → (own ≡ r) × (own ≡ 0 → ⊥)
   unfolding zero_read
-  stops_own _ (AsksFor q o is peer id recovery draw) to = absurd (let two = rw recovery at to in cc)
+  stops_own _ (AsksFor q o is peer id recovery draw) to = absurd (let same = recovery.1 in let two = rw same at to in cc)
   stops_own _ (Suggests f o is to_node id suggested attempt) to = absurd cc
   stops_own _ (Confirms f response is attempt from le) to = absurd cc
   stops_own _ (Refuses result error fit) to = by (own == 0) refl to

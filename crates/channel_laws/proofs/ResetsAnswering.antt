@@ -144,6 +144,7 @@ module _ (w : World) (h : History) (n : ℕ) (node : Node) (sender : Option Send
     answered.3 ∙ (does.attempt ∙ sym does.same.1),
     does.same.3 ∙ answered.4,
     λ reset. (let now = epoch_now in let made = ap (makes v n) does.same.0 ∙ makes_as n m.answer in omega (arith, now, made)),
+    answered.6 ∙ sym does.same.4,
   )
 
   pub reset_answering : Holds (moves_on w n node (move.ResetAnswering m) x) (after h d)

@@ -1,6 +1,6 @@
 -- The end that attempts resets its tunnel, by the answer that it takes, and enters the epoch of that answer.
 use Rattle.std.proofs.Common.{◌≡◌, inl, inr, ⊎_elim, ℕ, ◌<◌, ◌≤◌, false, refl, sym, ap, ap₂, ◌∙◌, subst, Option, Some, arith}
-use Rattle.std.specs.Prelude.{unwrap_or, max}
+use Rattle.std.specs.Prelude.{unwrap_or, max, is_some}
 use Rattle.control_message.specs.declared.message.Message.{Message}
 use Rattle.control_message.specs.declared.message.Message.TheVariants.{Sccrp}
 use Rattle.control_message.specs.declared.message.Opening.{Opening}
@@ -222,6 +222,10 @@ module _ (codecs : Codecs) (again : WrittenIsRead) (room : WrittenHasRoom) (w : 
   up : epoch_of w n i ≤ e
   up = omega (arith, below)
 
+  answered_now : (after h d).answers ((after h d).accounts n i 0).peer does.new.remote ≡ Some f
+  answered_now =
+      begins.answers _ does.new.remote ∙ (ap₂ h.answers (sym (peer ∙ ap (λ (a : Account). a.peer) (sym (first h (after h d) n i e new begins n i)))) does.same.2 ∙ is)
+
   recovered : IsRecovered v (after h d) n i (ByAttempt does.new)
   recovered = (
     (
@@ -232,13 +236,15 @@ module _ (codecs : Codecs) (again : WrittenIsRead) (room : WrittenHasRoom) (w : 
     ),
     λ reset. (
       f,
-      begins.answers _ does.new.remote ∙ (ap₂ h.answers (sym (peer ∙ ap (λ (a : Account). a.peer) (sym (first h (after h d) n i e new begins n i)))) does.same.2 ∙ is),
+      answered_now,
       remote_here,
       replied.attempt_is ∙ sym does.same.0,
       (let now = epoch_now in
           let made = ap₂ (makes v) (sym (peer ∙ ap (λ (a : Account). a.peer) (sym (first h (after h d) n i e new begins n i)))) does.same.2 ∙ makes_as other m.answer in
           omega (arith, now, made)),
+      replied.goes,
     ),
+    inr (ap is_some answered_now),
   )
 
   pub reset_attempting : Holds (moves_on w n node (move.ResetAttempting m) x) (after h d)

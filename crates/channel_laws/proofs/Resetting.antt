@@ -5,7 +5,7 @@ use Rattle.std.specs.List.{AllByRecursion}
 use Rattle.id_table.specs.Order.{same_or_not}
 use Rattle.id_table.specs.Ids.{at}
 use Rattle.end_model.specs.declared.moves.Froze.{Froze}
-use Rattle.end_names.specs.Names.{address_of}
+use Rattle.end_names.specs.Names.{address_of, node_of}
 use Rattle.end_model.specs.declared.out.Origin.{Origin}
 use Rattle.end_model.specs.declared.out.Origin.TheVariants as origin
 use Rattle.end_model.specs.Tunnels.{Tunnel, Recovering, ByAttempt, ByAnswer}
@@ -80,13 +80,15 @@ module _ (h k : History) (n i e : ℕ) (new : Account) (b : Begins h k n i e new
   }
 
   recovered_on : (w : World) (m j : ℕ) (r : Recovering) → IsRecovered w h m j r → IsRecovered w k m j r
-  recovered_on w m j (ByAttempt c) (q, reset) = (
+  recovered_on w m j (ByAttempt c) (q, reset, named) = (
     (q.0, b.attempts m c.local ∙ q.1, q.2, q.3),
     λ is. (let s = reset is in
-        subst (λ p. (f : Froze) × (k.answers p c.remote ≡ Some f) × (f.remote ≡ j) × (f.attempt ≡ c.local) × (makes w p c.remote ≤ epoch_of w m j)) (sym (first_peer m j))
-        (s.0, b.answers (h.accounts m j 0).peer c.remote ∙ s.1, s.2, s.3, s.4)),
+        subst (λ p. (f : Froze) × (k.answers p c.remote ≡ Some f) × (f.remote ≡ j) × (f.attempt ≡ c.local) × (makes w p c.remote ≤ epoch_of w m j) × (node_of f.peer ≡ m)) (sym (first_peer m j))
+        (s.0, b.answers (h.accounts m j 0).peer c.remote ∙ s.1, s.2, s.3, s.4, s.5)),
+    subst (λ p. (c.remote ≡ 0) ⊎ (is_some (k.answers p c.remote) ≡ true)) (sym (first_peer m j))
+        (⊎_elim (λ none. inl none) (λ is. inr (ap is_some (b.answers (h.accounts m j 0).peer c.remote) ∙ is)) named),
   )
-  recovered_on w m j (ByAnswer a) q = (q.0, b.answers m a.connection.local ∙ q.1, q.2, q.3, q.4, q.5)
+  recovered_on w m j (ByAnswer a) q = (q.0, b.answers m a.connection.local ∙ q.1, q.2, q.3, q.4, q.5, q.6)
 
   -- another tunnel than the one that resets, in a world where its epoch is as it was
   pub live_on : (w : World) (m j : ℕ) (t : Tunnel) → ((m ≡ n) × (j ≡ i) → ⊥) → LiveOk w h m j t → LiveOk w k m j t
@@ -189,13 +191,14 @@ module _ (w v : World) (h k : History) (n i e : ℕ) (new : Account) (b : Begins
   }
 
   recovered_grows : (m j : ℕ) (r : Recovering) → ((m ≡ n) × (j ≡ i) → ⊥) → IsRecovered w h m j r → IsRecovered v h m j r
-  recovered_grows m j (ByAttempt c) o (q, reset) = (
+  recovered_grows m j (ByAttempt c) o (q, reset, named) = (
     q,
     λ is. (let s = reset is in
-        let x = ap (λ (u : Standing). u.epoch) (standings m j o) in let y = makes_as (h.accounts m j 0).peer c.remote in let le = s.4 in (s.0, s.1, s.2, s.3, omega (arith, x, y, le))),
+        let x = ap (λ (u : Standing). u.epoch) (standings m j o) in let y = makes_as (h.accounts m j 0).peer c.remote in let le = s.4 in (s.0, s.1, s.2, s.3, omega (arith, x, y, le), s.5)),
+    named,
   )
   recovered_grows m j (ByAnswer a) o q =
-      (q.0, q.1, q.2, q.3, q.4, λ is. (let x = ap (λ (u : Standing). u.epoch) (standings m j o) in let y = makes_as m a.connection.local in let le = q.5 is in omega (arith, x, y, le)))
+      (q.0, q.1, q.2, q.3, q.4, λ is. (let x = ap (λ (u : Standing). u.epoch) (standings m j o) in let y = makes_as m a.connection.local in let le = q.5 is in omega (arith, x, y, le)), q.6)
 
   pub live_grows : (m j : ℕ) (t : Tunnel) → ((m ≡ n) × (j ≡ i) → ⊥) → LiveOk w h m j t → LiveOk v k m j t
   live_grows m j t o ok = live_on h k n i e new b v m j t o (record {

@@ -105,13 +105,14 @@ module _ (w v : World) (h : History) (rests : (n : ℕ) → RestsBy h n (at w.no
   -- ---- an end that is as it was
 
   recovered_rests : (n i : ℕ) (r : Recovering) → IsRecovered w h n i r → IsRecovered v h n i r
-  recovered_rests n i (ByAttempt c) (k, reset) = (
+  recovered_rests n i (ByAttempt c) (k, reset, named) = (
     k,
     λ is. (let q = reset is in
-        let e = epochs_rest n i in let m = makes_rest (h.accounts n i 0).peer c.remote in let le = q.4 in (q.0, q.1, q.2, q.3, omega (arith, e, m, le))),
+        let e = epochs_rest n i in let m = makes_rest (h.accounts n i 0).peer c.remote in let le = q.4 in (q.0, q.1, q.2, q.3, omega (arith, e, m, le), q.5)),
+    named,
   )
   recovered_rests n i (ByAnswer a) k =
-      (k.0, k.1, k.2, k.3, k.4, λ is. (let e = epochs_rest n i in let m = makes_rest n a.connection.local in let le = k.5 is in omega (arith, e, m, le)))
+      (k.0, k.1, k.2, k.3, k.4, λ is. (let e = epochs_rest n i in let m = makes_rest n a.connection.local in let le = k.5 is in omega (arith, e, m, le)), k.6)
 
   live_rests : (n i : ℕ) (t : Tunnel) → (standing_of v n i).lost ≡ (standing_of w n i).lost → LiveOk w h n i t → LiveOk v h n i t
   live_rests n i t lost ok = record {
@@ -367,13 +368,14 @@ module _ (w : World) (h : History) (n : ℕ) (new : Node) (lt : n < 256) (none :
 
     -- an end of another node
     recovered_as : (m i : ℕ) (r : Recovering) → IsRecovered w h m i r → IsRecovered grown h m i r
-    recovered_as m i (ByAttempt c) (k, reset) = (
+    recovered_as m i (ByAttempt c) (k, reset, named) = (
       k,
       λ is. (let q = reset is in
-          let e = ap (λ (s : Standing). s.epoch) (standing_as m i) in let x = makes_as (h.accounts m i 0).peer c.remote in let le = q.4 in (q.0, q.1, q.2, q.3, omega (arith, e, x, le))),
+          let e = ap (λ (s : Standing). s.epoch) (standing_as m i) in let x = makes_as (h.accounts m i 0).peer c.remote in let le = q.4 in (q.0, q.1, q.2, q.3, omega (arith, e, x, le), q.5)),
+      named,
     )
     recovered_as m i (ByAnswer a) k =
-        (k.0, k.1, k.2, k.3, k.4, λ is. (let e = ap (λ (s : Standing). s.epoch) (standing_as m i) in let x = makes_as m a.connection.local in let le = k.5 is in omega (arith, e, x, le)))
+        (k.0, k.1, k.2, k.3, k.4, λ is. (let e = ap (λ (s : Standing). s.epoch) (standing_as m i) in let x = makes_as m a.connection.local in let le = k.5 is in omega (arith, e, x, le)), k.6)
 
     live_as : (m i : ℕ) (t : Tunnel) → LiveOk w h m i t → LiveOk grown h m i t
     live_as m i t ok = record {

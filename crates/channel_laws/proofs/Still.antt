@@ -16,6 +16,7 @@ use Rattle.call_link.specs.Laws.{turn_at}
 use Rattle.end_model.specs.Links.{with_link}
 use Rattle.control_channel.specs.Channel.{Channel}
 use Rattle.recovery_tunnel.specs.Connections.{ControlConnection, is_waiting}
+use Rattle.end_names.specs.Names.{node_of}
 use Rattle.end_model.specs.declared.event.Event.{Event}
 use Rattle.end_model.specs.declared.moves.Restored.{Restored}
 use Rattle.end_model.specs.declared.moves.Froze.{Froze}
@@ -28,10 +29,13 @@ use Rattle.end_model.specs.Tunnels.{Tunnel, Recovering, ByAttempt, ByAnswer, con
 use Rattle.end_model.specs.End.{End}
 use Rattle.world_model.specs.World.{World, Node, Sender, Deed, moved, standing_in, standing_of, epoch_of}
 use Rattle.step_laws.specs.Moves.{LearnsOfReply}
+use Rattle.frame_laws.specs.Codecs.{Codecs}
 use Rattle.connection_laws.specs.Facts.{AllWait}
 use Rattle.channel_laws.specs.Accounts.{Part, Unmade, Opener, Acceptor, Renewed, Account, History, about, declined_in, declines_of, entered_by, after_deed, attempts_by, answers_by, after}
 use Rattle.channel_laws.specs.Facts.{Accounts, IsOpen, IsShut, partner_in, KnowsBy, makes, IsInState, ChannelOk, IsRecovered, LiveOk, EndOk, BookOk, NodeOk, Holds}
 use Rattle.channel_laws.specs.Steps.{with_end, moves_on, IsMoved, IsStill, StillMovesKeep}
+use Rattle.channel_laws.specs.Recoveries.{WrittenIsRead, WrittenHasRoom}
+use Rattle.channel_laws.proofs.Replying.{learned_answer}
 use Rattle.channel_laws.proofs.Resting.{Rests, put_holds, end_rests, rests_but}
 
 -- ---- the history
@@ -244,21 +248,26 @@ module _ (w : World) (h : History) (n i : ℕ) (channel : Channel) (closed : Boo
       by None waits reset = true≢false (sym reset)
       by (Some x) waits reset = true≢false (sym waits)
 
-  goes_recovered : (ev : Event) (peer : ℕ) (r : Recovering) → (remote ≡ (connection_of r).remote) ⊎ LearnsOfReply ev peer r remote → IsRecovered w h n i r
+  goes_recovered : (ev : Event) (peer : ℕ) (r : Recovering) → (remote ≡ (connection_of r).remote) ⊎ LearnsOfReply ev peer r remote
+      → (LearnsOfReply ev peer r remote → is_some (h.answers (h.accounts n i 0).peer remote) ≡ true) → IsRecovered w h n i r
       → IsRecovered w h n i (gone_on r)
-  goes_recovered ev peer (ByAttempt c) learns (attempt, reset) = (
+  goes_recovered ev peer (ByAttempt c) learns replies (attempt, reset, named) = (
     attempt,
     λ is. ⊎_elim
         (λ (same : remote ≡ c.remote).
-        subst (λ q. (f : Froze) × (h.answers (h.accounts n i 0).peer q ≡ Some f) × (f.remote ≡ i) × (f.attempt ≡ c.local) × (makes w (h.accounts n i 0).peer q ≤ epoch_of w n i)) (sym same) (reset is))
+        subst (λ q. (f : Froze) × (h.answers (h.accounts n i 0).peer q ≡ Some f) × (f.remote ≡ i) × (f.attempt ≡ c.local) × (makes w (h.accounts n i 0).peer q ≤ epoch_of w n i) × (node_of f.peer ≡ n)) (sym same) (reset is))
         (λ (l : LearnsOfReply ev peer (ByAttempt c) remote).
         let one : ByAttempt c ≡ ByAttempt l.connection = l.is in
         let same : c ≡ l.connection = cc in
         absurd (waits_unreset l.connection l.waits (subst (λ (q : ControlConnection). is_some q.reset ≡ true) same is)))
         learns,
+    ⊎_elim
+        (λ (same : remote ≡ c.remote). subst (λ q. (q ≡ 0) ⊎ (is_some (h.answers (h.accounts n i 0).peer q) ≡ true)) (sym same) named)
+        (λ l. inr (replies l))
+        learns,
   )
-  goes_recovered ev peer (ByAnswer a) learns k = ⊎_elim
-      (λ (same : remote ≡ a.connection.remote). (k.0, k.1, k.2, k.3 ∙ sym same, k.4, k.5))
+  goes_recovered ev peer (ByAnswer a) learns replies k = ⊎_elim
+      (λ (same : remote ≡ a.connection.remote). (k.0, k.1, k.2, k.3 ∙ sym same, k.4, k.5, k.6))
       (λ (l : LearnsOfReply ev peer (ByAnswer a) remote). let no : ByAnswer a ≡ ByAttempt l.connection = l.is in absurd cc)
       learns
 
@@ -373,28 +382,28 @@ window_as t c only le =
       none = λ q. q;
     }
 
-pub still_moves_keep : StillMovesKeep
+pub still_moves_keep : Codecs → WrittenIsRead → WrittenHasRoom → StillMovesKeep
 unfolding moved
-still_moves_keep (move.Quiet i) still w h n node sender moment ev x d k =
+still_moves_keep codecs again room (move.Quiet i) still w h n node sender moment ev x d k =
     by_end w h n node sender moment ev x d (move.Quiet i) still k refl (same_end w h n node sender moment ev x d (move.Quiet i) k k.does.after)
-still_moves_keep (move.FrameSent m) still w h n node sender moment ev x d k =
+still_moves_keep codecs again room (move.FrameSent m) still w h n node sender moment ev x d k =
     by_end w h n node sender moment ev x d (move.FrameSent m) still k refl (same_end w h n node sender moment ev x d (move.FrameSent m) k k.does.after)
-still_moves_keep (move.FrameUp m) still w h n node sender moment ev x d k =
+still_moves_keep codecs again room (move.FrameUp m) still w h n node sender moment ev x d k =
     by_end w h n node sender moment ev x d (move.FrameUp m) still k refl (same_end w h n node sender moment ev x d (move.FrameUp m) k k.does.after)
-still_moves_keep (move.Forgot m) still w h n node sender moment ev x d k =
+still_moves_keep codecs again room (move.Forgot m) still w h n node sender moment ev x d k =
     by_end w h n node sender moment ev x d (move.Forgot m) still k refl (same_end w h n node sender moment ev x d (move.Forgot m) k k.does.after)
-still_moves_keep (move.Cleared i booked) still w h n node sender moment ev x d k =
+still_moves_keep codecs again room (move.Cleared i booked) still w h n node sender moment ev x d k =
     let c = k.does in
     by_end w h n node sender moment ev x d (move.Cleared i booked) still k refl
     (subst (EndOk w h n) (sym c.after)
-    (without_ok w h n node.end _ (ok w h n node sender moment ev x d (move.Cleared i booked) k) (record { config = refl; role = refl; ids = omega arith }) i k.kept.order refl))
-still_moves_keep (move.Ignored i) still w h n node sender moment ev x d k =
+    (without_ok w h n node.end _ (ok w h n node sender moment ev x d (move.Cleared i booked) k) (record { config = refl; role = refl; ids = omega arith }) i k.fit.tables.order refl))
+still_moves_keep codecs again room (move.Ignored i) still w h n node sender moment ev x d k =
     let c = k.does in
     by_end w h n node sender moment ev x d (move.Ignored i) still k refl
     (put_end w h n node sender moment ev x d (move.Ignored i) k i c.tunnel _ _ c.there c.after refl (record { config = refl; role = refl; ids = omega arith })
     (record { local = refl; peer = refl; remote = refl; state = refl; acked = refl; queued = refl; outstanding = λ le. le; taken = refl; letters = refl; waits = λ q. q; none = λ q. q }) refl
     (λ live r is. live.recovery r is) (λ live q call is. live.calls q call is))
-still_moves_keep (move.RecoveryEnded i) still w h n node sender moment ev x d k =
+still_moves_keep codecs again room (move.RecoveryEnded i) still w h n node sender moment ev x d k =
     let c = k.does in
     by_end w h n node sender moment ev x d (move.RecoveryEnded i) still k refl
     (put_end w h n node sender moment ev x d (move.RecoveryEnded i) k i c.tunnel (record c.tunnel { recovery = None }) _ c.there c.after refl
@@ -402,7 +411,7 @@ still_moves_keep (move.RecoveryEnded i) still w h n node sender moment ev x d k 
     (record { local = refl; peer = refl; remote = refl; state = refl; acked = refl; queued = refl; outstanding = λ le. le; taken = refl; letters = refl; waits = λ q. q; none = λ q. q })
     (sym (ap (λ r. is_current (mode_of r)) c.has ∙ finished_current c.old c.finished))
     (λ live r is. absurd cc) (λ live q call is. live.calls q call is))
-still_moves_keep (move.RecoveryWentOn i) still w h n node sender moment ev x d k =
+still_moves_keep codecs again room (move.RecoveryWentOn i) still w h n node sender moment ev x d k =
     let c = k.does in
     let new = gone_on w h n i c.channel c.closed c.remote c.old in
     by_end w h n node sender moment ev x d (move.RecoveryWentOn i) still k refl
@@ -411,25 +420,26 @@ still_moves_keep (move.RecoveryWentOn i) still w h n node sender moment ev x d k
     (record { local = refl; peer = refl; remote = refl; state = refl; acked = refl; queued = refl; outstanding = λ le. le; taken = refl; letters = refl; waits = λ q. q; none = λ q. q })
     (ap is_current (same_mode w h n i c.channel c.closed c.remote c.old) ∙ sym (ap (λ r. is_current (mode_of r)) c.has))
     (λ live r is. (let one : Some new ≡ Some r = is in let same : new ≡ r = cc in
-    subst (IsRecovered w h n i) same (goes_recovered w h n i c.channel c.closed c.remote ev c.tunnel.control.peer c.old c.learns (live.recovery c.old c.has))))
+    subst (IsRecovered w h n i) same (goes_recovered w h n i c.channel c.closed c.remote ev c.tunnel.control.peer c.old c.learns
+    (learned_answer codecs again room w h n node sender moment ev i x d k) (live.recovery c.old c.has))))
     (λ live q call is. live.calls q call is))
-still_moves_keep (move.LetGo m) still w h n node sender moment ev x d k =
+still_moves_keep codecs again room (move.LetGo m) still w h n node sender moment ev x d k =
     let c = k.does in
     let numbers = let_go_at c.tunnel.control.channel moment in
     by_end w h n node sender moment ev x d (move.LetGo m) still k refl
     (put_end w h n node sender moment ev x d (move.LetGo m) k m.tunnel c.tunnel (record c.tunnel { control = record c.tunnel.control { channel = numbers } }) _ c.there c.after refl
     (record { config = refl; role = refl; ids = omega arith })
-    (window_as c.tunnel numbers (let_go_only c.tunnel.control.channel moment) (k.kept.tunnels m.tunnel c.tunnel c.there).outstanding) refl
+    (window_as c.tunnel numbers (let_go_only c.tunnel.control.channel moment) (((ok w h n node sender moment ev x d (move.LetGo m) k).live m.tunnel c.tunnel c.there).channel c.current).outstanding) refl
     (λ live r is. live.recovery r is) (λ live q call is. live.calls q call is))
-still_moves_keep (move.Repeated m) still w h n node sender moment ev x d k =
+still_moves_keep codecs again room (move.Repeated m) still w h n node sender moment ev x d k =
     let c = k.does in
     let numbers = ticked_at c.tunnel.control.channel moment in
     by_end w h n node sender moment ev x d (move.Repeated m) still k refl
     (put_end w h n node sender moment ev x d (move.Repeated m) k m.tunnel c.tunnel (record c.tunnel { control = record c.tunnel.control { channel = numbers } }) _ c.there c.after refl
     (record { config = refl; role = refl; ids = omega arith })
-    (window_as c.tunnel numbers (ticked_only c.tunnel.control.channel moment) (k.kept.tunnels m.tunnel c.tunnel c.there).outstanding) refl
+    (window_as c.tunnel numbers (ticked_only c.tunnel.control.channel moment) (((ok w h n node sender moment ev x d (move.Repeated m) k).live m.tunnel c.tunnel c.there).channel c.current).outstanding) refl
     (λ live r is. live.recovery r is) (λ live q call is. live.calls q call is))
-still_moves_keep (move.Negotiated m) still w h n node sender moment ev x d k =
+still_moves_keep codecs again room (move.Negotiated m) still w h n node sender moment ev x d k =
     let c = k.does in
     let new = with_link (turn_at c.calls.by c.calls.link).link c.call in
     by_end w h n node sender moment ev x d (move.Negotiated m) still k refl
@@ -449,7 +459,7 @@ still_moves_keep (move.Negotiated m) still w h n node sender moment ev x d k =
       none = up_none c.tunnel.calls m.session c.call new c.live;
     }) refl
     (λ live r is. live.recovery r is) (λ live q call is. put_fits c.tunnel.calls m.session c.call new c.live refl live.calls q call is))
-still_moves_keep (move.Counted m) still w h n node sender moment ev x d k =
+still_moves_keep codecs again room (move.Counted m) still w h n node sender moment ev x d k =
     let c = k.does in
     by_end w h n node sender moment ev x d (move.Counted m) still k refl
     (put_end w h n node sender moment ev x d (move.Counted m) k m.tunnel c.tunnel (record c.tunnel { calls = put c.tunnel.calls m.session (counted c.call) }) _ c.there c.after refl
@@ -468,9 +478,9 @@ still_moves_keep (move.Counted m) still w h n node sender moment ev x d k =
       none = up_none c.tunnel.calls m.session c.call (counted c.call) c.live;
     }) refl
     (λ live r is. live.recovery r is) (λ live q call is. put_fits c.tunnel.calls m.session c.call (counted c.call) c.live refl live.calls q call is))
-still_moves_keep (move.EndSilent m) still w h n node sender moment ev x d k =
+still_moves_keep codecs again room (move.EndSilent m) still w h n node sender moment ev x d k =
     let c = k.does in
-    let order = (k.kept.tunnels m.tunnel c.tunnel c.there).calls in
+    let order = (k.fit.tables.tunnels m.tunnel c.tunnel c.there).order in
     by_end w h n node sender moment ev x d (move.EndSilent m) still k refl
     (put_end w h n node sender moment ev x d (move.EndSilent m) k m.tunnel c.tunnel (record c.tunnel { calls = without c.tunnel.calls m.session }) _ c.there c.after refl
     (record { config = refl; role = refl; ids = omega arith })
@@ -488,4 +498,4 @@ still_moves_keep (move.EndSilent m) still w h n node sender moment ev x d k =
       none = fewer_none c.tunnel.calls m.session c.call c.live;
     }) refl
     (λ live r is. live.recovery r is) (λ live q call is. live.calls q call (found_without c.tunnel.calls m.session q call order is).1))
-still_moves_keep m still w h n node sender moment ev x d k = absurd still
+still_moves_keep codecs again room m still w h n node sender moment ev x d k = absurd still

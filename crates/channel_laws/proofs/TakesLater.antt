@@ -160,8 +160,8 @@ module _ (codecs : Codecs) (again : WrittenIsRead) (room : WrittenHasRoom) (clas
       let s = next_so codecs again room classes w h n node sender moment ev mv x d k t o.there o.current later plain v refl alike o.letter o.takes.next m.taken o.takes.taken_is in
       takes_hold codecs again room classes w h n node sender moment ev mv x d k t o.there o.current later plain v refl alike o.letter o.takes.next m.taken o.takes.taken_is
       [] u
-      (took_goes h.accounts n i e (h.accounts n i e) t channel (k.counts i t o.there) o.open_is calls
-      (λ q c f. live.calls q c (found_without t.calls m.session q c (k.kept.tunnels i t o.there).calls f).1))
+      (took_goes h.accounts n i e (h.accounts n i e) t channel (k.counts i t o.there o.current) o.open_is calls
+      (λ q c f. live.calls q c (found_without t.calls m.session q c (k.fit.tables.tunnels i t o.there).order f).1))
       o.open_is (takes_only d n node.end.role sender mv m.taken (h.accounts n i e) k.deed) (
         ⊎_elim (λ (is : o.letter.header.session ≡ m.session). inl (sym s.session ∙ is)) (λ (none : o.letter.header.session ≡ 0). inr (sym s.session ∙ none))
             (header_names t.calls o.letter.header.session o.remote m.session o.session_is),
@@ -191,7 +191,7 @@ module _ (codecs : Codecs) (again : WrittenIsRead) (room : WrittenHasRoom) (clas
       let s = next_so codecs again room classes w h n node sender moment ev mv x d k t o.there o.current later plain v refl alike o.letter o.takes.next m.taken o.takes.taken_is in
       takes_hold codecs again room classes w h n node sender moment ev mv x d k t o.there o.current later plain v refl alike o.letter o.takes.next m.taken o.takes.taken_is
       [] u
-      (took_goes h.accounts n i e (h.accounts n i e) t channel (k.counts i t o.there) o.open_is calls
+      (took_goes h.accounts n i e (h.accounts n i e) t channel (k.counts i t o.there o.current) o.open_is calls
       (calls_put t.calls m.session call live.calls (rw (advanced_remote node.end.role call_event.IccnAcc moment o.call) (live.calls m.session o.call o.made))))
       o.open_is (takes_only d n node.end.role sender mv m.taken (h.accounts n i e) k.deed) (
         sym s.session ∙ o.says.session_is,
@@ -223,7 +223,7 @@ module _ (codecs : Codecs) (again : WrittenIsRead) (room : WrittenHasRoom) (clas
       let fits : m.remote < 65536 = (says_written h n i e sender ev t o.letter o.takes.next s (Icrp m.remote) o.says.said).0 in
       takes_hold codecs again room classes w h n node sender moment ev mv x d k t o.there o.current later plain v refl alike o.letter o.takes.next m.taken o.takes.taken_is
       (l ∷ []) u
-      (took_and_given_goes h.accounts n i e (h.accounts n i e) t channel (k.counts i t o.there) o.open_is calls
+      (took_and_given_goes h.accounts n i e (h.accounts n i e) t channel (k.counts i t o.there o.current) o.open_is calls
       (calls_put t.calls m.session call live.calls (rw (advanced_remote node.end.role call_event.IcrpAcc moment (record o.call { remote = m.remote })) fits))
       l o.room)
       o.open_is (takes_and_gives d n node.end.role sender mv m.taken (h.accounts n i e) k.deed)
@@ -257,10 +257,10 @@ module _ (codecs : Codecs) (again : WrittenIsRead) (room : WrittenHasRoom) (clas
       let id = drawn.0 in
       let le = drawn.1 in
       let first = k.fit.tables.first_session in
-      let last = k.kept.sessions in
+      let last = k.fit.session_ids.last in
       takes_hold codecs again room classes w h n node sender moment ev mv x d k t o.there o.current later plain v refl alike o.letter o.takes.next m.taken o.takes.taken_is
       (l ∷ []) u
-      (took_and_given_goes h.accounts n i e (h.accounts n i e) t channel (k.counts i t o.there) o.open_is calls
+      (took_and_given_goes h.accounts n i e (h.accounts n i e) t channel (k.counts i t o.there o.current) o.open_is calls
       (calls_put t.calls m.session call live.calls (rw (asked_remote node.end.role m.remote moment) fits))
       l o.room)
       o.open_is (takes_and_gives d n node.end.role sender mv m.taken (h.accounts n i e) k.deed)
@@ -343,7 +343,7 @@ module _ (codecs : Codecs) (again : WrittenIsRead) (room : WrittenHasRoom) (clas
         let channel = channel_so codecs again room classes w h n node sender moment ev mv x d k t o.there o.current later plain v world_is alike in
         takes_hold codecs again room classes w h n node sender moment ev mv x d k t o.there o.current later plain v world_is alike o.letter o.takes.next m.taken o.takes.taken_is
         (l ∷ []) u
-        (took_and_given_goes h.accounts n m.tunnel e (h.accounts n m.tunnel e) t channel (k.counts m.tunnel t o.there) o.open_is t.calls live.calls l o.room)
+        (took_and_given_goes h.accounts n m.tunnel e (h.accounts n m.tunnel e) t channel (k.counts m.tunnel t o.there o.current) o.open_is t.calls live.calls l o.room)
         o.open_is (takes_and_gives d n node.end.role sender mv m.taken (h.accounts n m.tunnel e) k.deed)
         is.tells
         (record { written = (omega arith, codes.0, codes.1); hides = tt; session = is.fits }, tt) (tt, tt) (tt, tt)

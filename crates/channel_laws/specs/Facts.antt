@@ -17,6 +17,7 @@ use Rattle.avp_codec.specs.Spelling.{spelling}
 use Rattle.control_message.specs.declared.message.Message.{Message}
 use Rattle.control_message.specs.declared.message.Message.TheVariants.{Sccrq, Sccrp, Scccn, StopCcn}
 use Rattle.control_message.specs.declared.message.Opening.{Opening}
+use Rattle.control_message.specs.declared.message.Recovery.{Recovery}
 use Rattle.control_message.specs.Pairs.{pairs_of, IsWritten}
 use Rattle.recv_window.specs.Window.{on_wire}
 use Rattle.tunnel_fsm.specs.Rows.{state_number}
@@ -182,6 +183,7 @@ pub record AnswerOk (w : World) (h : History) (m c : ℕ) (f : Froze) : Type 0 w
   pub own : f.answer ≡ c
   pub some : 0 < c
   pub fits : c < 65536
+  pub draw_fits : f.draw < 2 ^ 32
   pub peer_fits : node_of f.peer < 256
   pub peer_is : f.peer ≡ address_of (node_of f.peer)
   pub linked : AreLinked h.accounts m f.tunnel (node_of f.peer) f.remote
@@ -200,6 +202,7 @@ pub record AttemptOk (h : History) (n a : ℕ) (m : Restored) : Type 0 where
   pub own : m.attempt ≡ a
   pub some : 0 < a
   pub fits : a < 65536
+  pub draw_fits : m.draw < 2 ^ 32
   pub booked : BookedOk h n m.tunnel
 
 -- the end that gave the answer begins the epoch with the number that it suggests for itself, and expects the other one; its peer does it the
@@ -309,16 +312,18 @@ pub record ChannelOk (accs : Accounts) (n i e : ℕ) (a : Account) (t : Tunnel) 
   pub were_acked : AreAcked accs n i e a acked a.part
 
 -- the recovery tunnel of a tunnel: an attempt, which has the ids and the draw number with which it began; or an answer, which has the ids that were
--- given, and the numbers that it suggests. An attempt that reset its tunnel knows the answer by which it did
+-- given, the draw number, and the numbers that it suggests. An attempt that reset its tunnel knows the answer by which it did, and it names an answer, or
+-- none
 abbrev pub IsRecovered : World → History → ℕ → ℕ → Recovering → Type 0
 IsRecovered w h n i (ByAttempt c) =
     ((m : Restored) × (h.attempts n c.local ≡ Some m) × (m.tunnel.local ≡ i) × (m.draw ≡ c.draw))
     × ((is_some c.reset ≡ true) → (f : Froze) × (h.answers (h.accounts n i 0).peer c.remote ≡ Some f) × (f.remote ≡ i) × (f.attempt ≡ c.local)
-    × (makes w (h.accounts n i 0).peer c.remote ≤ epoch_of w n i))
+    × (makes w (h.accounts n i 0).peer c.remote ≤ epoch_of w n i) × (node_of f.peer ≡ n))
+    × ((c.remote ≡ 0) ⊎ (is_some (h.answers (h.accounts n i 0).peer c.remote) ≡ true))
 IsRecovered w h n i (ByAnswer a) =
     (f : Froze) × (h.answers n a.connection.local ≡ Some f) × (f.tunnel ≡ i) × (f.attempt ≡ a.connection.remote)
     × (a.suggested ≡ record { ns = f.expect; nr = f.send_from })
-    × ((is_some a.connection.reset ≡ true) → makes w n a.connection.local ≤ epoch_of w n i)
+    × ((is_some a.connection.reset ≡ true) → makes w n a.connection.local ≤ epoch_of w n i) × (f.draw ≡ a.connection.draw)
 
 -- a live tunnel
 pub record LiveOk (w : World) (h : History) (n i : ℕ) (t : Tunnel) : Type 0 where
@@ -415,9 +420,9 @@ pub record IsRefusal (h : History) (p : Packet) (o : ControlOrigin) : Type 0 whe
 
 -- what a recovery tunnel of a node with some id says, to the tunnel id that it names
 pub data SaysRecovery (w : World) (h : History) (p : Packet) (own named : ℕ) : Message → Type 0 where
-  -- an attempt asks for the recovery of its tunnel, by both ids of it
+  -- an attempt asks for the recovery of its tunnel, by its own id of it
   AsksFor : (m : Restored) (o : Opening) → h.attempts p.from own ≡ Some m → m.tunnel.peer ≡ address_of p.to → o.tunnel ≡ own
-      → o.recovery ≡ Some (record { sender = m.tunnel.local; receiver = m.tunnel.remote }) → o.attempt ≡ Some m.draw
+      → (named : Recovery) × (o.recovery ≡ Some named) × (named.sender ≡ m.tunnel.local) → o.attempt ≡ Some m.draw
       → SaysRecovery w h p own named (Sccrq o)
   -- an answer suggests the numbers, to the attempt that it answers
   Suggests : (f : Froze) (o : Opening) → h.answers p.from own ≡ Some f → p.to ≡ node_of f.peer → o.tunnel ≡ own → o.suggested ≡ Some (record { ns = f.expect; nr = f.send_from })

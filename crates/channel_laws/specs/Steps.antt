@@ -1,7 +1,7 @@
 -- The moves of a step, each made in the world to which the moves before it lead. Between two moves the node has the end of the chain, and still the
 -- checkpoint that it had before the step: what the step committed is put in its place behind the last move, and is then the book of the
 -- end that is left.
-use Rattle.std.specs.Prelude.{◌≡◌, ℕ, ◌+◌, ◌<◌, ◌≤◌, true, List, length, Option, Some, None, Ok}
+use Rattle.std.specs.Prelude.{◌≡◌, ℕ, ◌+◌, ◌^◌, ◌<◌, ◌≤◌, true, List, length, slice_get, Option, Some, None, Ok}
 use Rattle.id_table.specs.Ids.{at}
 use Rattle.l2tp_header.specs.declared.header.Header.{Header}
 use Rattle.l2tp_header.specs.Reading.{header_of, body_of}
@@ -22,9 +22,8 @@ use Rattle.world_model.specs.declared.packet.Packet.{Packet}
 use Rattle.world_model.specs.World.{World, Node, Sender, Deed, with_node, moved, epoch_of, sender_of}
 use Rattle.step_laws.specs.Arrivals.{IsFor}
 use Rattle.step_laws.specs.Moves.{Does}
-use Rattle.step_laws.specs.Steps.{AreKept}
 use Rattle.book_laws.specs.Books.{Fits}
-use Rattle.connection_laws.specs.Steps.{IsDeed, HasNumbers, HasCounts}
+use Rattle.connection_laws.specs.Steps.{IsDeed}
 use Rattle.channel_laws.specs.Accounts.{Account, History, about, after}
 use Rattle.channel_laws.specs.Facts.{PacketOk, Holds}
 use Rattle.channel_laws.specs.Epochs.{EpochsKnown}
@@ -54,6 +53,8 @@ AreNear w h n e p bytes (origin.Recovery own number empty) = Unit {0}
 -- the datagram of a step is a packet, as the end reads it with some secret, or with none
 pub record IsPacket (w : World) (h : History) (n : ℕ) (e : End) (sender : Option Sender) (peer : ℕ) (bytes : List ℕ) : Type 0 where
   pub packet : Packet
+  pub place : ℕ
+  pub sent : slice_get w.packets place ≡ Some packet
   pub ok : PacketOk w h packet
   pub to : packet.to ≡ n
   pub peer_is : peer ≡ address_of packet.from
@@ -65,22 +66,30 @@ pub record IsPacket (w : World) (h : History) (n : ℕ) (e : End) (sender : Opti
 abbrev pub Comes : World → History → ℕ → End → Option Sender → Event → Type 0
 Comes w h n e sender ev = (peer : ℕ) (bytes : List ℕ) → ev ≡ Datagram peer bytes → IsPacket w h n e sender peer bytes
 
+-- the numbers of letters don't reach the end of 64 bits in this move, in a tunnel that is neither frozen nor restored; nor do those of letters that
+-- are taken
+abbrev pub NumbersFit : End → Type 0
+NumbersFit e = (i : ℕ) (t : Tunnel) → at e.tunnels i ≡ Some t → is_current (mode_of t.recovery) ≡ true → t.control.channel.window.acked + 8192 < 2 ^ 64
+
+abbrev pub CountsFit : End → Type 0
+CountsFit e = (i : ℕ) (t : Tunnel) → at e.tunnels i ≡ Some t → is_current (mode_of t.recovery) ≡ true → t.control.channel.inbox.taken + 1 < 2 ^ 64
+
 -- ---- moves
 
--- a move of a node, in a world that is as what was done says. Its deed tells the epoch of its tunnel as the move leaves it: no move behind it in
--- the step resets that tunnel, since a tunnel resets when it is frozen or restored, and a step that freezes it hears no answer and no confirmation
+-- a move of a node, in a world that is as what was done says. Its deed tells the epoch of its tunnel as the move leaves it. So it does of a move
+-- that gives or takes a letter, or enters an epoch: no move behind it in the step resets that tunnel, since a tunnel resets when it is frozen or
+-- restored, and a step that freezes it hears no answer and no confirmation
 pub record IsMoved (w : World) (h : History) (n : ℕ) (node : Node) (sender : Option Sender) (moment : ℕ) (ev : Event) (m : Move) (x : End) (d : Deed) : Type 0 where
   pub there : at w.nodes n ≡ Some node
   pub holds : Holds w h
   pub known : EpochsKnown w h
-  pub kept : AreKept node.end
   pub fit : Fits node.end
   -- a tunnel that isn't established isn't in the checkpoint
   pub unbooked : (i : ℕ) (t : Tunnel) → at node.end.tunnels i ≡ Some t → state_number t.control.state < 3 → tunnel_at node.checkpoint.book i ≡ None
   pub comes : Comes w h n node.end sender ev
   -- no number of a letter reaches the end of 64 bits in this move
-  pub numbers : HasNumbers node.end
-  pub counts : HasCounts node.end
+  pub numbers : NumbersFit node.end
+  pub counts : CountsFit node.end
   pub does : Does node.end moment ev m x
   pub deed : IsDeed d n node.end.role sender m
   pub epoch : d.epoch ≡ epoch_of (moves_on w n node m x) n (about m)
@@ -157,3 +166,13 @@ IsTaking m = ⊥
 
 abbrev pub TakingMovesKeep : Type 0
 TakingMovesKeep = (m : Move) → IsTaking m → Keeps m
+
+-- moves by which a tunnel is opened or accepted, and by which an opening is declined
+abbrev pub IsBeginning : Move → Type 0
+IsBeginning (move.Opened m) = Unit {0}
+IsBeginning (move.Accepted m) = Unit {0}
+IsBeginning (move.Declined m) = Unit {0}
+IsBeginning m = ⊥
+
+abbrev pub BeginningMovesKeep : Type 0
+BeginningMovesKeep = (m : Move) → IsBeginning m → Keeps m

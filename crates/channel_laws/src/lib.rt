@@ -4,7 +4,7 @@
 ghost use Rattle.channel_laws.specs.Heard.{NoneIsOfAnother};
 ghost use Rattle.channel_laws.specs.Lines.{LinesDo};
 ghost use Rattle.channel_laws.specs.Recoveries.{WrittenHasRoom, WrittenIsRead};
-ghost use Rattle.channel_laws.specs.Steps.{GivingMovesKeep, OpeningMovesKeep, RecoveriesKeep, StillMovesKeep, TakingMovesKeep};
+ghost use Rattle.channel_laws.specs.Steps.{BeginningMovesKeep, GivingMovesKeep, OpeningMovesKeep, RecoveriesKeep, StillMovesKeep, TakingMovesKeep};
 ghost use Rattle.connection_laws.specs.Steps.{MovesKeep};
 ghost use Rattle.frame_laws.specs.Codecs.{Codecs};
 ghost use Rattle.recv_window.specs.Window.{ClassIsTrue};
@@ -44,7 +44,9 @@ pub fn lines_do()
 /// is called, or a letter goes on the wire, once or again.
 pub fn still_moves_keep()
     ensures { StillMovesKeep }
-{}
+{
+    laws_below();
+}
 
 /// A move of a step keeps what holds where an attempt of the other end is answered, which freezes the tunnel and makes an epoch of its link, and where
 /// either end resets its tunnel, and so enters the epoch of the answer.
@@ -74,6 +76,13 @@ pub fn opening_moves_keep()
 /// has a call that rings.
 pub fn taking_moves_keep()
     ensures { TakingMovesKeep }
+{
+    laws_below();
+}
+
+/// A move of a step keeps what holds where a tunnel is opened, or accepted by an opening that recovers nothing, and where an opening is declined.
+pub fn beginning_moves_keep()
+    ensures { BeginningMovesKeep }
 {
     laws_below();
 }
