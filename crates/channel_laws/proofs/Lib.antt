@@ -57,3 +57,4 @@ mod Inactive
 mod Agreeing
 mod Numbering
 mod Nearness
+mod Looks
