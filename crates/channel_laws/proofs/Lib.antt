@@ -58,3 +58,6 @@ mod Agreeing
 mod Numbering
 mod Nearness
 mod Looks
+mod Budgets
+mod Moving
+pub mod Stepping

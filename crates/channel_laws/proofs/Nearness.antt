@@ -356,7 +356,7 @@ module _ (codecs : Codecs) (w : World) (h : History) (n : ℕ) (node : Node) (se
                   let wire = next_wire (on_wire o.ns) t.control.channel.inbox (omega arith) (ap (λ z. class_of z t.control.channel.inbox) (sym ns) ∙ next.next) in
                   let room = one_near o.ns (taken_of t) taken wire in
                   finish (q.0 ∙ sym (epoch_same i (stays t was on))) (omega (arith, room, more)) (omega (arith, acked, acked_same))
-              by (Reads t nr was on tells goes remote taken_same acked_now) =
+              by (Reads t nr one was on tells goes remote taken_same acked_now) =
                   let l = same_letter tells.letter tells.comes.came in
                   let to_peer = sym goes.peer ∙ peer_is in
                   let its = subst (λ z. IsFor z (body_of bytes kh) t.control) l.0 (subst (λ z. IsFor tells.letter.header z t.control) l.1 tells.comes.tunnel) in

@@ -1,6 +1,6 @@
 -- What a move makes of the numbers of a tunnel that is neither frozen nor restored: of the first letter that isn't acknowledged, and of the one
 -- that comes next.
-use Rattle.std.proofs.Common.{◌≡◌, ◌⊎◌, inl, inr, ⊎_elim, ℕ, ◌+◌, ◌%◌, ◌^◌, ◌<◌, ◌≤◌, Bool, true, false, cond, List, refl, sym, ap, ◌∙◌, subst, Option, Some, None, arith}
+use Rattle.std.proofs.Common.{◌≡◌, ◌⊎◌, inl, inr, ⊎_elim, ℕ, ◌+◌, ◌%◌, ◌^◌, ◌<◌, ◌≤◌, Bool, true, false, cond, List, length, refl, sym, ap, ◌∙◌, subst, Option, Some, None, arith}
 use Rattle.std.proofs.lemmas.Bool.{true≢false}
 use Rattle.std.proofs.lemmas.Option.{none-some}
 use Rattle.std.specs.Prelude.{◌&&◌, nat_lt}
@@ -24,6 +24,7 @@ use Rattle.end_model.specs.End.{End}
 use Rattle.step_laws.specs.Arrivals.{Came, IsNext, TellsNr}
 use Rattle.step_laws.specs.Moves.{Does, Closes, WhyCloses, ByOperator, ByLetter, begun}
 use Rattle.step_laws.specs.Steps.{IsOfNoStart}
+use Rattle.step_laws.specs.Ups.{reads_of_move}
 use Rattle.connection_laws.proofs.Connecting.{learnt}
 use Rattle.channel_laws.specs.Accounts.{about}
 use Rattle.channel_laws.proofs.Inactive.{IsReset, same_mode}
@@ -62,7 +63,7 @@ pub data Counted (e : End) (moment : ℕ) (ev : Event) (m : Move) (j : ℕ) (u :
   Stays : (t : Tunnel) → at e.tunnels j ≡ Some t → IsActive t → SameCounts t u → Counted e moment ev m j u
   Takes : (t : Tunnel) (k : Came) → at e.tunnels j ≡ Some t → IsActive t → IsNext ev t k → GoesTo t u → taken_of u ≤ taken_of t + 1 → acked_of u ≡ acked_of t
       → Counted e moment ev m j u
-  Reads : (t : Tunnel) (nr : ℕ) → at e.tunnels j ≡ Some t → IsActive t → TellsNr ev t.control nr → GoesTo t u → u.control.remote ≡ t.control.remote
+  Reads : (t : Tunnel) (nr : ℕ) → length (reads_of_move m) ≡ 1 → at e.tunnels j ≡ Some t → IsActive t → TellsNr ev t.control nr → GoesTo t u → u.control.remote ≡ t.control.remote
       → taken_of u ≡ taken_of t → acked_of u ≡ (acked_at t.control.channel nr moment).window.acked → Counted e moment ev m j u
   Begins : IsFirst m → about m ≡ j → taken_of u ≤ 1 → acked_of u ≡ 0 → Counted e moment ev m j u
   Resets : (t : Tunnel) → IsReset m → about m ≡ j → at e.tunnels j ≡ Some t → is_current (mode_of t.recovery) ≡ false → u.control.state ≡ t.control.state
@@ -136,10 +137,10 @@ module _ (e x : End) (moment : ℕ) (ev : Event) (m : Move) (j : ℕ) (u : Tunne
   put_takes k t v was puts current c next goes taken acked = is_put k v puts
       (λ here is. Takes t c (from k t was here) current next (subst (GoesTo t) is goes) (subst (λ y. taken_of y ≤ taken_of t + 1) is taken) (subst (λ y. acked_of y ≡ acked_of t) is acked))
 
-  put_reads : (k : ℕ) (t v : Tunnel) (nr : ℕ) → at e.tunnels k ≡ Some t → x.tunnels ≡ put e.tunnels k v → IsActive t → TellsNr ev t.control nr → GoesTo t v
+  put_reads : (k : ℕ) (t v : Tunnel) (nr : ℕ) → length (reads_of_move m) ≡ 1 → at e.tunnels k ≡ Some t → x.tunnels ≡ put e.tunnels k v → IsActive t → TellsNr ev t.control nr → GoesTo t v
       → v.control.remote ≡ t.control.remote → taken_of v ≡ taken_of t → acked_of v ≡ (acked_at t.control.channel nr moment).window.acked → Is
-  put_reads k t v nr was puts current tells goes remote taken acked = is_put k v puts
-      (λ here is. Reads t nr (from k t was here) current tells (subst (GoesTo t) is goes) (subst (λ (y : Tunnel). y.control.remote ≡ t.control.remote) is remote)
+  put_reads k t v nr one was puts current tells goes remote taken acked = is_put k v puts
+      (λ here is. Reads t nr one (from k t was here) current tells (subst (GoesTo t) is goes) (subst (λ (y : Tunnel). y.control.remote ≡ t.control.remote) is remote)
       (subst (λ y. taken_of y ≡ taken_of t) is taken) (subst (λ y. acked_of y ≡ (acked_at t.control.channel nr moment).window.acked) is acked))
 
   put_begins : (k : ℕ) (v : Tunnel) → x.tunnels ≡ put e.tunnels k v → IsFirst m → about m ≡ k → taken_of v ≤ 1 → acked_of v ≡ 0 → Is
@@ -222,7 +223,7 @@ does_count e x moment ev (move.Closed m) start order h j u there active =
       acked = refl;
     })
 does_count e x moment ev (move.NrRead m) start order h j u there active =
-    put_reads e x moment ev (move.NrRead m) j u there active m.tunnel h.tunnel _ m.nr h.there (tunnels_are x _ h.after) h.current h.tells
+    put_reads e x moment ev (move.NrRead m) j u there active m.tunnel h.tunnel _ m.nr refl h.there (tunnels_are x _ h.after) h.current h.tells
     (goes_on h.tunnel _ refl refl refl) refl refl refl
 does_count e x moment ev (move.LetGo m) start order h j u there active =
     put_stays e x moment ev (move.LetGo m) j u there active m.tunnel h.tunnel _ h.there (tunnels_are x _ h.after) (λ on. on) (record {

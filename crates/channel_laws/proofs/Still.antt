@@ -41,13 +41,13 @@ use Rattle.channel_laws.proofs.Resting.{Rests, put_holds, end_rests, rests_but}
 -- ---- the history
 
 -- a deed that does nothing in any account
-record DoesNothing (d : Deed) : Type 0 where
+pub record DoesNothing (d : Deed) : Type 0 where
   account : (a : Account) → entered_by d d.move a ≡ a
   declines : (n i : ℕ) → declines_of d.move n i ≡ false
   attempts : (n a : ℕ) (o : Option Restored) → attempts_by d d.move n a o ≡ o
   answers : (n c : ℕ) (o : Option Froze) → answers_by d d.move n c o ≡ o
 
-same_history : (h : History) (d : Deed) → DoesNothing d → after h d ≡ h
+pub same_history : (h : History) (d : Deed) → DoesNothing d → after h d ≡ h
 same_history h d none = λ j. record {
   accounts = λ n i e. account n i e (h.accounts n i e) j;
   attempts = λ n a. none.attempts n a (h.attempts n a) j;
@@ -64,7 +64,7 @@ same_history h d none = λ j. record {
         ∙ by (((d.node == n) && (about d.move == i)) && (d.epoch == e)) a
 
 -- the deed of a move that is none of a letter or of a recovery
-nothing_by : (d : Deed) (m : Move) → IsStill m → d.move ≡ m → DoesNothing d
+pub nothing_by : (d : Deed) (m : Move) → IsStill m → d.move ≡ m → DoesNothing d
 nothing_by d (move.EndSilent m) still is = rw is (record { account = λ a. refl; declines = λ n i. refl; attempts = λ n a o. refl; answers = λ n c o. refl })
 nothing_by d (move.Cleared i booked) still is = rw is (record { account = λ a. refl; declines = λ n i. refl; attempts = λ n a o. refl; answers = λ n c o. refl })
 nothing_by d (move.Quiet i) still is = rw is (record { account = λ a. refl; declines = λ n i. refl; attempts = λ n a o. refl; answers = λ n c o. refl })

@@ -5,3 +5,4 @@ pub mod Recoveries
 pub mod Heard
 pub mod Lines
 pub mod Steps
+pub mod Whole
