@@ -58,6 +58,7 @@ mod Agreeing
 mod Numbering
 mod Nearness
 mod Looks
+mod Mailing
 mod Budgets
 mod Moving
 pub mod Stepping

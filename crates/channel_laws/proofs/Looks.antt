@@ -10,6 +10,7 @@ use Rattle.end_model.specs.declared.moves.Move.{Move}
 use Rattle.end_model.specs.declared.moves.Move.TheVariants as move
 use Rattle.end_model.specs.Tunnels.{Tunnel, Recovering, ByAttempt, ByAnswer}
 use Rattle.end_model.specs.End.{End}
+use Rattle.world_model.specs.declared.packet.Packet.{Packet}
 use Rattle.world_model.specs.declared.standing.Standing.{Standing}
 use Rattle.world_model.specs.World.{World, Node, standing_of, epoch_of, answer_in, with_node, with_birth, with_birth_at, is_born, with_standing, with_standing_at, with_answer_at, has_made, makes_epoch, enters_epoch, birth_of, moved, moved_all}
 use Rattle.channel_laws.specs.Accounts.{History}
@@ -119,9 +120,16 @@ pub looks_so : (a : Node) (o : Option Node) → SameLook (Some a) o → (b : Nod
 looks_so a None p = absurd p
 looks_so a (Some b) p = (b, refl, p.0, p.1)
 
--- ---- worlds that agree
+-- ---- worlds whose standings and answers are the same
 
-module _ (v u : World) (h : History) (g : Agree v u) where
+pub record CountAlike (v u : World) : Type 0 where
+  pub standings : (m j : ℕ) → standing_of u m j ≡ standing_of v m j
+  pub makes_as : (m c : ℕ) → makes u m c ≡ makes v m c
+
+pub count_alike : (v u : World) → Agree v u → CountAlike v u
+count_alike v u g = record { standings = g.standings; makes_as = g.makes_as }
+
+module _ (v u : World) (h : History) (g : CountAlike v u) where
   epochs : (m j : ℕ) → epoch_of u m j ≡ epoch_of v m j
   epochs m j = ap (λ (s : Standing). s.epoch) (g.standings m j)
 
@@ -176,12 +184,15 @@ module _ (v u : World) (h : History) (g : Agree v u) where
   node_agrees n (Some a) (Some b) p ok =
       (subst (EndOk u h n) (sym p.0) (end_agrees n a.end ok.0), subst (λ k. BookOk h n k.book) (sym p.1) ok.1)
 
-  pub holds_agrees : Holds v h → ((n : ℕ) → NodeOk u h n (at u.nodes n)) → Holds u h
-  holds_agrees holds nodes = record {
+  pub packets_agree : (ps : List Packet) → AllByRecursion (PacketOk v h) ps → AllByRecursion (PacketOk u h) ps
+  packets_agree ps ok = packets_grow v u h grows ps ok
+
+  pub holds_agrees : Holds v h → ((n : ℕ) → NodeOk u h n (at u.nodes n)) → AllByRecursion (PacketOk u h) u.packets → Holds u h
+  holds_agrees holds nodes packets = record {
     accounts = λ n i e. account_grows v u h grows n i e (h.accounts n i e) (holds.accounts n i e);
     attempts = holds.attempts;
     answers = λ n c f is. answers_grow v u h grows n c f is (holds.answers n c f is);
     standings = λ n i. subst (StandingOk h n i) (sym (g.standings n i)) (holds.standings n i);
     nodes = nodes;
-    packets = subst (AllByRecursion (PacketOk u h)) (sym g.packets) (packets_grow v u h grows v.packets holds.packets);
+    packets = packets;
   }

@@ -17,6 +17,7 @@ use Rattle.end_model.specs.declared.moves.Move.TheVariants as move
 use Rattle.end_model.specs.Contents.{records_of}
 use Rattle.end_model.specs.Tunnels.{Tunnel, mode_of, is_current}
 use Rattle.end_model.specs.End.{End}
+use Rattle.world_model.specs.declared.packet.Packet.{Packet}
 use Rattle.world_model.specs.declared.standing.Standing.{Standing}
 use Rattle.world_model.specs.World.{World, Node, Checkpoint, Sender, Deed, standing_of, epoch_of, tunnel_of, deed_of, moved, moved_all}
 use Rattle.step_laws.specs.Moves.{Does, Chain}
@@ -31,7 +32,7 @@ use Rattle.book_laws.proofs.Lists.{entry_has}
 use Rattle.book_laws.proofs.Steps.{SpacesRose, chain_spaces, high, high_drawn, ChainGoes, chain_goes}
 use Rattle.connection_laws.specs.Steps.{IsDeed}
 use Rattle.channel_laws.specs.Accounts.{Account, no_account, History, about, after, history_from}
-use Rattle.channel_laws.specs.Facts.{IsMade, LiveOk, EndOk, BookOk, NodeOk, Holds}
+use Rattle.channel_laws.specs.Facts.{IsMade, LiveOk, EndOk, BookOk, NodeOk, PacketOk, Holds}
 use Rattle.channel_laws.specs.Steps.{Comes, with_end, moves_on, IsMoved, Keeps, IsStill}
 use Rattle.channel_laws.specs.Whole.{IsAlong}
 use Rattle.channel_laws.proofs.Agreeing.{Agree, agree_back, agree_on, put_agrees, moved_agrees, chain_epoch}
@@ -39,6 +40,7 @@ use Rattle.channel_laws.proofs.Budgets.{ActiveBelow, active_then, Below, given_t
 use Rattle.channel_laws.proofs.Entering.{base_here, base_other}
 use Rattle.channel_laws.proofs.Inactive.{begins_so}
 use Rattle.channel_laws.proofs.Looks.{SameLook, same_look, look_on, moved_look, looks_so}
+use Rattle.channel_laws.proofs.Mailing.{mail_kept}
 use Rattle.channel_laws.proofs.Nearness.{comes_then}
 use Rattle.channel_laws.proofs.Numbering.{IsActive, Counted, Stays, Takes, Reads, Begins, Resets, IsFirst, does_count}
 use Rattle.channel_laws.proofs.Opening.{undrawn}
@@ -245,6 +247,10 @@ module _ (any : (m : Move) → IsOfNoStart m → Keeps m) (codecs : Codecs) (J :
           (given_then h d v n node.end y moment ev m start does_here is_deed.node_is is_deed.move_is epoch end_by (top + 8192 * reads_in more) most active_more
           (let one = reads_few more rest y are_more came_more in let r = room in omega (arith, one, r)) a.below)
 
+      -- a packet stays as it is
+      pub mail_then : (p : Packet) → PacketOk w h p → PacketOk v (after h (deed m)) p
+      mail_then p ok = subst (λ q. PacketOk v q p) same (mail_kept w h p ok any n node sender moment ev m start y d is_moved)
+
       -- a tunnel that isn't established isn't booked
       unbooked_then : (i : ℕ) (t : Tunnel) → at y.tunnels i ≡ Some t → state_number t.control.state < 3 → tunnel_at c0.book i ≡ None
       unbooked_then i t there early = by_mode (is_current (mode_of t.recovery)) refl
@@ -302,27 +308,37 @@ module _ (any : (m : Move) → IsOfNoStart m → Keeps m) (codecs : Codecs) (J :
     role_is : e0.role ≡ node.end.role
     role_is = sym (same_role moment ev e0 x made came) ∙ ap (λ (q : End). q.role) (sym a.end)
 
-    pub amid_on : Amid more y v (after h (deed m))
+    pub amid_on : Amid more y v (after h (deed m)) × ((p : Packet) → PacketOk w h p → PacketOk v (after h (deed m)) p)
     amid_on = ⊎_elim
         (λ (still : IsStill m).
         let d : Deed = record (deed m) { epoch = epoch_of v n (about m) } in
-        amid_then d (record { node_is = refl; role_is = role_is; sender_is = refl; move_is = refl }) refl
-        (same_history h d (nothing_by d m still refl) ∙ sym (same_history h (deed m) (nothing_by (deed m) m still refl))))
-        (λ still. amid_then (deed m) (record { node_is = refl; role_is = role_is; sender_is = refl; move_is = refl }) (epoch_told still) refl)
+        let is_deed : IsDeed d n node.end.role sender m = record { node_is = refl; role_is = role_is; sender_is = refl; move_is = refl } in
+        let same = same_history h d (nothing_by d m still refl) ∙ sym (same_history h (deed m) (nothing_by (deed m) m still refl)) in
+        (amid_then d is_deed refl same, mail_then d is_deed refl same))
+        (λ still.
+        let is_deed : IsDeed (deed m) n node.end.role sender m = record { node_is = refl; role_is = role_is; sender_is = refl; move_is = refl } in
+        (amid_then (deed m) is_deed (epoch_told still) refl, mail_then (deed m) is_deed (epoch_told still) refl))
         (still_or_not m)
 
   -- ---- all of them
 
-  pub record Led (made : List Move) (x : End) (h : History) : Type 0 where
+  -- the world to which moves lead from one; what is as what was done says of packets stays so
+  pub record Led (from : World) (before : History) (made : List Move) (x : End) (h : History) : Type 0 where
     pub world : World
     pub amid : Amid made x world h
+    pub mail : (p : Packet) → PacketOk from before p → PacketOk world h p
 
   pub leads : (ns made rest : List Move) (x y : End) (w : World) (h : History) → Amid made x w h → ms ≡ made ++ (ns ++ rest) → Chain moment ev e0 made x → Chain moment ev x ns y
-      → Chain moment ev y rest z → Led (made ++ ns) y (history_from (map deed ns) h)
+      → Chain moment ev y rest z → Led w h (made ++ ns) y (history_from (map deed ns) h)
   unfolding history_from
-  leads [] made rest x y w h a are came steps goes = record { world = w; amid = subst (λ l. Amid l y w h) (sym (append-nil made)) (subst (λ q. Amid made q w h) steps a) }
+  leads [] made rest x y w h a are came steps goes =
+      record { world = w; amid = subst (λ l. Amid l y w h) (sym (append-nil made)) (subst (λ q. Amid made q w h) steps a); mail = λ p ok. ok }
   leads (m ∷ ns) made rest x y w h a are came steps goes =
       let on = amid_on made (ns ++ rest) m x steps.0 w h a are came steps.1 (chain_both moment ev steps.0 y z ns rest steps.2 goes) in
-      subst (λ l. Led l y (history_from (map deed ns) (after h (deed m)))) (append_assoc made (m ∷ []) ns)
-      (leads ns (made ++ m ∷ []) rest steps.0 y _ (after h (deed m)) on (front_on ms made (ns ++ rest) m are)
-      (chain_both moment ev e0 x steps.0 made (m ∷ []) came (steps.0, steps.1, refl)) steps.2 goes)
+      let led = leads ns (made ++ m ∷ []) rest steps.0 y _ (after h (deed m)) on.0 (front_on ms made (ns ++ rest) m are)
+      (chain_both moment ev e0 x steps.0 made (m ∷ []) came (steps.0, steps.1, refl)) steps.2 goes in
+      record {
+        world = led.world;
+        amid = subst (λ l. Amid l y led.world (history_from (map deed ns) (after h (deed m)))) (append_assoc made (m ∷ []) ns) led.amid;
+        mail = λ p ok. led.mail p (on.1 p ok);
+      }
