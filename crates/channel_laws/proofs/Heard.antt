@@ -50,7 +50,7 @@ lives : (number count : ℕ) → outlives number count ≡ false → count ≤ n
 lives number count h = grind (arith, nat_tests)
 
 -- a packet that isn't refused is of no earlier epoch
-no_earlier : (epoch : ℕ) (o : ControlOrigin) (s : Standing) (c : Control) → is_past epoch o s c ≡ None → s.epoch ≤ epoch
+pub no_earlier : (epoch : ℕ) (o : ControlOrigin) (s : Standing) (c : Control) → is_past epoch o s c ≡ None → s.epoch ≤ epoch
 no_earlier epoch o s c h =
     not_less epoch s.epoch (none_first (nat_lt epoch s.epoch) (Stale epoch s.epoch) (cond (epoch == s.epoch) (outlived o (counts_now s.lost c)) None) h).0
 
@@ -67,7 +67,7 @@ young_counts o c young =
     record { taken = lives o.ns taken one.0; acked = lives o.nr acked two.0 }
 
 -- of the same epoch its numbers haven't outlived half of them, as the channel counts, which wasn't lost
-same_epoch : (epoch : ℕ) (o : ControlOrigin) (s : Standing) (c : Control) → is_past epoch o s c ≡ None → epoch ≡ s.epoch → s.lost ≡ None → IsYoung o c
+pub same_epoch : (epoch : ℕ) (o : ControlOrigin) (s : Standing) (c : Control) → is_past epoch o s c ≡ None → epoch ≡ s.epoch → s.lost ≡ None → IsYoung o c
 same_epoch epoch o s c h same kept =
     let rest = (none_first (nat_lt epoch s.epoch) (Stale epoch s.epoch) (cond (epoch == s.epoch) (outlived o (counts_now s.lost c)) None) h).1 in
     young_counts o c (by (epoch == s.epoch) refl rest)
@@ -76,7 +76,7 @@ same_epoch epoch o s c h same kept =
     by true is g = subst (λ (l : Option Counts). outlived o (counts_now l c) ≡ None) kept g
     by false is g = absurd (eqb-false epoch s.epoch is same)
 
-past_of : (w : World) (n epoch : ℕ) (o : ControlOrigin) (c : Control) → too_old epoch o w n (Some c) ≡ None → is_past epoch o (standing_of w n c.local) c ≡ None
+pub past_of : (w : World) (n epoch : ℕ) (o : ControlOrigin) (c : Control) → too_old epoch o w n (Some c) ≡ None → is_past epoch o (standing_of w n c.local) c ≡ None
 unfolding too_old
 past_of w n epoch o c h = h
 
@@ -306,13 +306,13 @@ module _ (codecs : Codecs) (classes : ClassIsTrue) (w : World) (h : History) (ho
     some : 0 < i
     some = (holds.accounts p.to i 0).some live.made
 
-    epoch : p.epoch ≡ epoch_of w p.to i
+    pub epoch : p.epoch ≡ epoch_of w p.to i
     epoch =
         let low = no_earlier p.epoch o (standing_of w p.to i) t.control past in
         let high = no_later w h holds known p o p.epoch copy i some t is_live current names in
         omega (arith, low, high)
 
-    young : IsYoung o t.control
+    pub young : IsYoung o t.control
     young = same_epoch p.epoch o (standing_of w p.to i) t.control past epoch (live.kept current)
 
     channel : ChannelOk h.accounts p.to i p.epoch (h.accounts p.to i p.epoch) t

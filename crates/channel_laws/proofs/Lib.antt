@@ -59,6 +59,8 @@ mod Numbering
 mod Nearness
 mod Looks
 mod Mailing
+mod Reaching
+mod Arriving
 mod Budgets
 mod Moving
 pub mod Stepping

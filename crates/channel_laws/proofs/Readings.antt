@@ -35,6 +35,7 @@ use Rattle.channel_laws.proofs.Told.{all_at}
 
 -- the header of a control message, and what it has behind that
 pub record ControlRead (tunnel session ns nr : ℕ) (pairs bytes : List ℕ) (h : Header) : Type 0 where
+  pub control : h.control ≡ true
   pub tunnel_is : h.tunnel ≡ tunnel
   pub session_is : h.session ≡ session
   pub ns_is : unwrap_or h.ns 0 ≡ ns
@@ -58,6 +59,7 @@ pub record IsNoneRead (o : ControlOrigin) (h : Header) (bytes : List ℕ) : Type
   pub body : body_of bytes h ≡ []
 
 pub record CopyRead (a : Account) (o : ControlOrigin) (tunnel : ℕ) (h : Header) (bytes : List ℕ) : Type 0 where
+  pub control : h.control ≡ true
   pub tunnel_is : h.tunnel ≡ tunnel
   pub ns : unwrap_or h.ns 0 ≡ on_wire o.ns
   pub nr : unwrap_or h.nr 0 ≡ on_wire o.nr
@@ -65,6 +67,7 @@ pub record CopyRead (a : Account) (o : ControlOrigin) (tunnel : ℕ) (h : Header
 
 -- a StopCCN of no tunnel
 pub record StopRead (tunnel result : ℕ) (error : Option ℕ) (h : Header) (bytes : List ℕ) : Type 0 where
+  pub control : h.control ≡ true
   pub tunnel_is : h.tunnel ≡ tunnel
   pub ns : unwrap_or h.ns 0 ≡ 0
   pub nr : unwrap_or h.nr 0 ≡ 1
@@ -87,7 +90,7 @@ module _ (codecs : Codecs) where
       let k = control_header tunnel session ns nr (length pairs) in
       let c = codecs.control tunnel session ns nr pairs t s a b le in
       let same : h ≡ k = same_header codecs made h k pairs c (rw are at e) in
-      rw (same, are) (record { tunnel_is = refl; session_is = refl; ns_is = refl; nr_is = refl; body = c.bounds })
+      rw (same, are) (record { control = refl; tunnel_is = refl; session_is = refl; ns_is = refl; nr_is = refl; body = c.bounds })
 
   -- a data message is no control message
   pub data_read : (secret : Option (List ℕ)) (bytes : List ℕ) (h : Header) → IsData bytes → header_of (uncovered_datagram secret bytes) ≡ Ok h → h.control ≡ true → ⊥
@@ -114,6 +117,7 @@ module _ (codecs : Codecs) where
           let u = letter_read codecs secret l copy.tunnel o.ns o.nr p.bytes t s are in
           let r = control_read copy.tunnel l.session (on_wire o.ns) (on_wire o.nr) u.body bytes h t s.session (on_wire_fits o.ns) (on_wire_fits o.nr) u.few u.is e in
           record {
+            control = r.control;
             tunnel_is = r.tunnel_is;
             ns = r.ns_is;
             nr = r.nr_is;
@@ -131,7 +135,7 @@ module _ (codecs : Codecs) where
       by (Nothing empty are) =
           let r = control_read copy.tunnel 0 (on_wire o.ns) (on_wire o.nr) [] bytes h t (omega arith) (on_wire_fits o.ns) (on_wire_fits o.nr) (omega arith)
           (nothing_read codecs secret copy.tunnel o.ns o.nr p.bytes t are) e in
-          record { tunnel_is = r.tunnel_is; ns = r.ns_is; nr = r.nr_is; says = inr (record { none = empty; body = r.body }) }
+          record { control = r.control; tunnel_is = r.tunnel_is; ns = r.ns_is; nr = r.nr_is; says = inr (record { none = empty; body = r.body }) }
 
   pub stop_read : (tunnel result : ℕ) (error : Option ℕ) (bytes : List ℕ) (secret : Option (List ℕ)) (h : Header) → tunnel < 65536 → CodesFit result error
       → bytes ≡ control_bytes tunnel 0 0 1 (spelling (pairs_of (StopCcn 0 result error))) → header_of (uncovered_datagram secret bytes) ≡ Ok h
@@ -142,6 +146,7 @@ module _ (codecs : Codecs) where
       let stays = ap (uncovered_datagram secret) are ∙ letter_stays codecs secret tunnel 0 0 1 m t (omega arith) (omega arith) (omega arith) written in
       let r = control_read tunnel 0 0 1 (spelling (pairs_of m)) (uncovered_datagram secret bytes) h t (omega arith) (omega arith) (omega arith) (codecs.room m written) stays e in
       record {
+        control = r.control;
         tunnel_is = r.tunnel_is;
         ns = r.ns_is;
         nr = r.nr_is;
