@@ -64,3 +64,5 @@ mod Arriving
 mod Budgets
 mod Moving
 pub mod Stepping
+mod Committing
+mod Ending
