@@ -82,7 +82,7 @@ module _ (codecs : Codecs) (classes : ClassIsTrue) (w : World) (h : History) (ho
   refusal_reaches : (o : ControlOrigin) → IsRefusal h p o → (i : ℕ) (t : Tunnel) (kh : Header) → at e.tunnels i ≡ Some t
       → t.control.peer ≡ address_of p.from → header_of bytes ≡ Ok kh → IsFor kh (body_of bytes kh) t.control → reached_plain e (address_of p.from) bytes ≡ Some t.control
   refusal_reaches o r i t kh there peer read is =
-      let k = stop_read codecs r.tunnel r.result r.error p.bytes e.config.secret kh (refused_fits w h holds p o r) r.fit r.are read in
+      let k = stop_read codecs r.tunnel o.nr r.result r.error p.bytes e.config.secret kh (refused_fits w h holds p o r) r.nr r.fit r.are read in
       subst (λ q. reached_plain e q bytes ≡ Some t.control) peer
       (is_reached e end.apart i t there (end.live i t there).local (live_some i t there) bytes kh read k.control
       (λ q opens z. (let asks = (opens_said (body_of bytes kh) (StopCcn 0 r.result r.error) q opens k.said).1 in let no : ⊥ = cc in no))

@@ -39,7 +39,7 @@ pub record OfNoTunnel (w : World) (h : History) (n : ℕ) (e : End) (sender : Op
   pub packet : Packet
   pub o : ControlOrigin
   pub refusal : IsRefusal h packet o
-  pub read : StopRead refusal.tunnel refusal.result refusal.error k.header bytes
+  pub read : StopRead refusal.tunnel o.nr refusal.result refusal.error k.header bytes
   pub sender_is : sender ≡ Some (record { node = packet.from; tunnel = o.tunnel })
   pub from : packet.from < 256
   pub to : packet.to ≡ n
@@ -121,8 +121,8 @@ module _ (w : World) (h : History) (holds : Holds w h) where
           packet = is_packet.packet;
           o = o;
           refusal = r;
-          read = subst (StopRead r.tunnel r.result r.error k.header) (sym is_packet.bytes_are)
-              (stop_read codecs r.tunnel r.result r.error is_packet.packet.bytes is_packet.secret k.header (refused_fits is_packet.packet o r) r.fit r.are read);
+          read = subst (StopRead r.tunnel o.nr r.result r.error k.header) (sym is_packet.bytes_are)
+              (stop_read codecs r.tunnel o.nr r.result r.error is_packet.packet.bytes is_packet.secret k.header (refused_fits is_packet.packet o r) r.nr r.fit r.are read);
           sender_is = is_packet.sender_is ∙ ap (λ q. sender_of is_packet.packet.from q) is;
           from = is_packet.ok.from;
           to = is_packet.to;

@@ -3,6 +3,10 @@ use Rattle.std.proofs.Common.{◌≡◌, ◌⊎◌, inl, inr, ⊎_elim, ℕ, ◌
 use Rattle.std.proofs.lemmas.Bool.{true≢false, eq-eqb}
 use Rattle.std.proofs.lemmas.Option.{none-some}
 use Rattle.std.specs.Prelude.{is_some, slice_get, ◌^◌, ◌==◌, ◌&&◌, if◌then◌else◌}
+use Rattle.l2tp_header.specs.Spelling.{control_bytes}
+use Rattle.avp_codec.specs.Spelling.{spelling}
+use Rattle.control_message.specs.declared.message.Message.TheVariants.{StopCcn}
+use Rattle.control_message.specs.Pairs.{pairs_of}
 use Rattle.id_table.specs.Ids.{at, put, at-none}
 use Rattle.id_table.specs.Order.{Ascends, ascends-put, found_put, at_new, same_or_not}
 use Rattle.id_source.specs.Spaces.{Space}
@@ -159,7 +163,8 @@ module _ (laws : calm_steps.MovesKeep) (codecs : Codecs) (again : WrittenIsRead)
     of_no_tunnel f =
         let r = f.refusal in
         let named : r.tunnel ≡ i = named_by_stop w h k.holds codecs n sender ev i t live_zero learned letter to node.end to.came.bytes f in
-        let asked : ((h.accounts f.packet.to r.tunnel 0).part ≡ Opener) × ((h.accounts f.packet.to r.tunnel 0).peer ≡ f.packet.from) × ((h.accounts f.packet.to r.tunnel 0).declined ≡ true) =
+        let asked : ((h.accounts f.packet.to r.tunnel 0).part ≡ Opener) × ((h.accounts f.packet.to r.tunnel 0).peer ≡ f.packet.from) × ((h.accounts f.packet.to r.tunnel 0).declined ≡ true)
+            × (f.o.nr ≡ 1) =
         ⊎_elim (λ q. q)
         (λ q.
         let none = both_ok.0.ids.no_attempt i live_zero.made in
@@ -173,7 +178,7 @@ module _ (laws : calm_steps.MovesKeep) (codecs : Codecs) (again : WrittenIsRead)
             sent = subst (calm_facts.OriginOk (calm_of h) f.packet) (sym f.origin_is) (inr (record {
               none = r.none;
               ns = r.ns;
-              nr = r.nr;
+              nr = asked.3;
               some = r.some;
               tunnel = r.tunnel;
               opener = ap calm_part asked.0;
@@ -182,7 +187,7 @@ module _ (laws : calm_steps.MovesKeep) (codecs : Codecs) (again : WrittenIsRead)
               result = r.result;
               error = r.error;
               fit = r.fit;
-              are = r.are;
+              are = r.are ∙ ap (λ z. control_bytes r.tunnel 0 0 z (spelling (pairs_of (StopCcn 0 r.result r.error)))) asked.3;
             }));
           };
           to = f.to;

@@ -685,7 +685,7 @@ module _ (w v : World) (h k : History) (n i e : ℕ) (only : IsOnly h k n i e) (
           let a = h.accounts p.to r.tunnel 0 in
           let g = grown p.to r.tunnel 0 in
           let made = opener_made a q.0 in
-          inl (part_on a (k.accounts p.to r.tunnel 0) g made ∙ q.0, g.peer made ∙ q.1, g.declined q.2))
+          inl (part_on a (k.accounts p.to r.tunnel 0) g made ∙ q.0, g.peer made ∙ q.1, g.declined q.2, q.3))
           (λ q. inr (q.0, only.attempts p.to r.tunnel ∙ q.1, q.2))
           r.asked;
       result = r.result;

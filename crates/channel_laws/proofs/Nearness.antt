@@ -187,8 +187,8 @@ module _ (codecs : Codecs) (w : World) (h : History) (n : ℕ) (node : Node) (se
             let c = copy_read codecs a p o came.secret kh ok.remote ok.spelled copy read_there in
             record { ns = c.ns; nr = c.nr })
             (λ (r : IsRefusal h p o).
-            let s = stop_read codecs r.tunnel r.result r.error p.bytes came.secret kh (refused_fits w h k.holds p o r) r.fit r.are read_there in
-            record { ns = s.ns ∙ ap on_wire (sym r.ns); nr = s.nr ∙ ap on_wire (sym r.nr) })
+            let s = stop_read codecs r.tunnel o.nr r.result r.error p.bytes came.secret kh (refused_fits w h k.holds p o r) r.nr r.fit r.are read_there in
+            record { ns = s.ns ∙ ap on_wire (sym r.ns); nr = s.nr ∙ (let lt = r.nr in omega (arith, lt)) })
             said_ok
 
         -- what it says is of epoch 0 where it opens a tunnel
@@ -227,7 +227,7 @@ module _ (codecs : Codecs) (w : World) (h : History) (n : ℕ) (node : Node) (se
             (λ answer. true≢false (sym answer ∙ ap is_some (both_ok.0.ids.no_answer id here)))
             used)
             (λ (r : IsRefusal h p o).
-            let s = stop_read codecs r.tunnel r.result r.error p.bytes came.secret kh (refused_fits w h k.holds p o r) r.fit r.are read_there in
+            let s = stop_read codecs r.tunnel o.nr r.result r.error p.bytes came.secret kh (refused_fits w h k.holds p o r) r.nr r.fit r.are read_there in
             other r.result r.error (ap (λ bs. message_in (body_of bs kh)) came.bytes_are ∙ s.said))
             said_ok
 

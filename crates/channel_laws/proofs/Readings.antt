@@ -66,11 +66,11 @@ pub record CopyRead (a : Account) (o : ControlOrigin) (tunnel : ℕ) (h : Header
   pub says : IsLetterRead a o h bytes ⊎ IsNoneRead o h bytes
 
 -- a StopCCN of no tunnel
-pub record StopRead (tunnel result : ℕ) (error : Option ℕ) (h : Header) (bytes : List ℕ) : Type 0 where
+pub record StopRead (tunnel told result : ℕ) (error : Option ℕ) (h : Header) (bytes : List ℕ) : Type 0 where
   pub control : h.control ≡ true
   pub tunnel_is : h.tunnel ≡ tunnel
   pub ns : unwrap_or h.ns 0 ≡ 0
-  pub nr : unwrap_or h.nr 0 ≡ 1
+  pub nr : unwrap_or h.nr 0 ≡ told
   pub said : message_in (body_of bytes h) ≡ Ok (StopCcn 0 result error)
   pub reads : IsReadAs (StopCcn 0 result error) (body_of bytes h)
 
@@ -137,14 +137,14 @@ module _ (codecs : Codecs) where
           (nothing_read codecs secret copy.tunnel o.ns o.nr p.bytes t are) e in
           record { control = r.control; tunnel_is = r.tunnel_is; ns = r.ns_is; nr = r.nr_is; says = inr (record { none = empty; body = r.body }) }
 
-  pub stop_read : (tunnel result : ℕ) (error : Option ℕ) (bytes : List ℕ) (secret : Option (List ℕ)) (h : Header) → tunnel < 65536 → CodesFit result error
-      → bytes ≡ control_bytes tunnel 0 0 1 (spelling (pairs_of (StopCcn 0 result error))) → header_of (uncovered_datagram secret bytes) ≡ Ok h
-      → StopRead tunnel result error h (uncovered_datagram secret bytes)
-  stop_read tunnel result error bytes secret h t fit are e =
+  pub stop_read : (tunnel told result : ℕ) (error : Option ℕ) (bytes : List ℕ) (secret : Option (List ℕ)) (h : Header) → tunnel < 65536 → told < 65536 → CodesFit result error
+      → bytes ≡ control_bytes tunnel 0 0 told (spelling (pairs_of (StopCcn 0 result error))) → header_of (uncovered_datagram secret bytes) ≡ Ok h
+      → StopRead tunnel told result error h (uncovered_datagram secret bytes)
+  stop_read tunnel told result error bytes secret h t small fit are e =
       let m = StopCcn 0 result error in
       let written : IsWrittenPlainly m = (omega arith, fit.0, fit.1) in
-      let stays = ap (uncovered_datagram secret) are ∙ letter_stays codecs secret tunnel 0 0 1 m t (omega arith) (omega arith) (omega arith) written in
-      let r = control_read tunnel 0 0 1 (spelling (pairs_of m)) (uncovered_datagram secret bytes) h t (omega arith) (omega arith) (omega arith) (codecs.room m written) stays e in
+      let stays = ap (uncovered_datagram secret) are ∙ letter_stays codecs secret tunnel 0 0 told m t (omega arith) (omega arith) small written in
+      let r = control_read tunnel 0 0 told (spelling (pairs_of m)) (uncovered_datagram secret bytes) h t (omega arith) (omega arith) small (codecs.room m written) stays e in
       record {
         control = r.control;
         tunnel_is = r.tunnel_is;

@@ -135,7 +135,7 @@ module _ (h k : History) (n i e : ℕ) (new : Account) (b : Begins h k n i e new
     epoch = r.epoch;
     tunnel = r.tunnel;
     asked = ⊎_elim
-        (λ q. inl (first_part p.to r.tunnel ∙ q.0, first_peer p.to r.tunnel ∙ q.1, ap (λ (a : Account). a.declined) (first h k n i e new b p.to r.tunnel) ∙ q.2))
+        (λ q. inl (first_part p.to r.tunnel ∙ q.0, first_peer p.to r.tunnel ∙ q.1, ap (λ (a : Account). a.declined) (first h k n i e new b p.to r.tunnel) ∙ q.2, q.3))
         (λ q. inr (q.0, b.attempts p.to r.tunnel ∙ q.1, q.2))
         r.asked;
     result = r.result;

@@ -403,20 +403,22 @@ pub record IsCopy (a : Account) (p : Packet) (o : ControlOrigin) : Type 0 where
       ⊎ ((tunnel ≡ 0 → ⊥) × (tunnel ≡ a.remote))
   pub says : Says a o tunnel p.bytes
 
--- a StopCCN of no tunnel declines the SCCRQ of a tunnel of the node that it goes to, or that of an attempt there; it tells no epoch
+-- a StopCCN of no tunnel declines the SCCRQ of a tunnel of the node that it goes to, which is that tunnel's first letter, or the SCCRQ of an attempt there,
+-- of whose number nothing is known; it tells no epoch
 pub record IsRefusal (h : History) (p : Packet) (o : ControlOrigin) : Type 0 where
   pub none : o.tunnel ≡ 0
   pub ns : o.ns ≡ 0
-  pub nr : o.nr ≡ 1
+  pub nr : o.nr < 65536
   pub some : o.empty ≡ false
   pub epoch : p.epoch ≡ 0
   pub tunnel : ℕ
-  pub asked : (((h.accounts p.to tunnel 0).part ≡ Opener) × ((h.accounts p.to tunnel 0).peer ≡ p.from) × ((h.accounts p.to tunnel 0).declined ≡ true))
+  pub asked : (((h.accounts p.to tunnel 0).part ≡ Opener) × ((h.accounts p.to tunnel 0).peer ≡ p.from) × ((h.accounts p.to tunnel 0).declined ≡ true)
+      × (o.nr ≡ 1))
       ⊎ ((m : Restored) × (h.attempts p.to tunnel ≡ Some m) × (m.tunnel.peer ≡ address_of p.from))
   pub result : ℕ
   pub error : Option ℕ
   pub fit : CodesFit result error
-  pub are : p.bytes ≡ control_bytes tunnel 0 0 1 (spelling (pairs_of (StopCcn 0 result error)))
+  pub are : p.bytes ≡ control_bytes tunnel 0 0 o.nr (spelling (pairs_of (StopCcn 0 result error)))
 
 -- what a recovery tunnel of a node with some id says, to the tunnel id that it names
 pub data SaysRecovery (w : World) (h : History) (p : Packet) (own named : ℕ) : Message → Type 0 where
