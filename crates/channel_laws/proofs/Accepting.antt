@@ -58,10 +58,10 @@ use Rattle.channel_laws.proofs.TakesLater.{deed_plain}
 use Rattle.channel_laws.proofs.Told.{all_at}
 
 -- an SCCRQ that was given is the first letter of an opener, and tells its id
-record IsAsking (h : History) (m j : ℕ) (place : ℕ) (o : Opening) : Type 0 where
-  part : (h.accounts m j 0).part ≡ Opener
-  at_first : place ≡ 0
-  told : o.tunnel ≡ j
+pub record IsAsking (h : History) (m j : ℕ) (place : ℕ) (o : Opening) : Type 0 where
+  pub part : (h.accounts m j 0).part ≡ Opener
+  pub at_first : place ≡ 0
+  pub told : o.tunnel ≡ j
 
 module _ (w : World) (h : History) (holds : Holds w h) (m j : ℕ) (place : ℕ) (l : Letter) (o : Opening) (there : slice_get (h.accounts m j 0).given place ≡ Some l) (is : l.message ≡ Sccrq o) where
   abbrev a : Account
@@ -73,7 +73,7 @@ module _ (w : World) (h : History) (holds : Holds w h) (m j : ℕ) (place : ℕ)
   opens : IsNoOpening l.message → ⊥
   opens no_ = subst IsNoOpening is no_
 
-  asks_first : IsMade (h.accounts m j 0) → IsAsking h m j place o
+  pub asks_first : IsMade (h.accounts m j 0) → IsAsking h m j place o
   asks_first made = ⊎_elim
       (λ (own : a.part ≡ Opener).
       let first = first_only j Sccrq a.given (opener_of w h m j 0 a ok own).1.begins place l there opens in

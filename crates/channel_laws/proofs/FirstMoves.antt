@@ -164,7 +164,7 @@ module _ (laws : calm_steps.MovesKeep) (codecs : Codecs) (again : WrittenIsRead)
         let r = f.refusal in
         let named : r.tunnel ≡ i = named_by_stop w h k.holds codecs n sender ev i t live_zero learned letter to node.end to.came.bytes f in
         let asked : ((h.accounts f.packet.to r.tunnel 0).part ≡ Opener) × ((h.accounts f.packet.to r.tunnel 0).peer ≡ f.packet.from) × ((h.accounts f.packet.to r.tunnel 0).declined ≡ true)
-            × (f.o.nr ≡ 1) =
+        × (f.o.nr ≡ 1) =
         ⊎_elim (λ q. q)
         (λ q.
         let none = both_ok.0.ids.no_attempt i live_zero.made in

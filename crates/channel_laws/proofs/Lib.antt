@@ -66,3 +66,5 @@ mod Moving
 pub mod Stepping
 mod Committing
 mod Ending
+mod Refusing
+mod Sending

@@ -59,7 +59,7 @@ module _ (y : Message) where
 
 module _ (w : World) (h : History) (p : Packet) (own named r : ℕ) (avps : List Avp) where
   -- none opens a tunnel
-  opens_none : (m : Message) → SaysRecovery w h p own named m → zero_read avps (Ok (Known m)) ≡ Opens r → ⊥
+  pub opens_none : (m : Message) → SaysRecovery w h p own named m → zero_read avps (Ok (Known m)) ≡ Opens r → ⊥
   unfolding zero_read
   opens_none _ (AsksFor q o is peer id recovery draw) to = let no : ⊥ = (let same = recovery.1 in let two = rw same at to in cc) in no
   opens_none _ (Suggests f o is to_node id suggested attempt) to = cc
