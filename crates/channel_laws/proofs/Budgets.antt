@@ -20,6 +20,7 @@ use Rattle.step_laws.specs.Ups.{reads_of_move}
 use Rattle.channel_laws.specs.Accounts.{Part, Unmade, Opener, Acceptor, Renewed, Account, History, about, declines_of, declined_by, declined_in, entered_by, after_deed, after}
 use Rattle.channel_laws.specs.Facts.{IsMade, IsPart, partner_in, ChannelOk, EndOk, AccountOk, Holds}
 use Rattle.channel_laws.specs.Steps.{NumbersFit, CountsFit}
+pub use Rattle.channel_laws.specs.Whole.{Below}
 use Rattle.channel_laws.proofs.Inactive.{IsReset}
 use Rattle.channel_laws.proofs.Linked.{part_cases, opener_of, acceptor_of, renewed_of, unlearned_small, nearby}
 use Rattle.channel_laws.proofs.Numbering.{IsActive, taken_of, acked_of, Counted, Stays, Takes, Reads, Begins, Resets, does_count}
@@ -68,9 +69,6 @@ module _ (w : World) (h : History) (n : ℕ) (e x : End) (ok : EndOk w h n e) (m
       by (Resets t reset it was off state acked) = omega (arith, acked, enough)
 
 -- ---- letters that are given
-
-abbrev pub Below : History → ℕ → Type 0
-Below h most = (n i e : ℕ) → length (h.accounts n i e).given ≤ most
 
 -- a tunnel that is active
 pub record HasActive (x : End) (i : ℕ) : Type 0 where

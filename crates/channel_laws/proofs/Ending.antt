@@ -1,41 +1,56 @@
--- A step of a node, all of which was committed: what its moves lead to, before anything of it is sent.
-use Rattle.std.proofs.Common.{◌≡◌, ◌⊎◌, inl, inr, ⊎_elim, ℕ, ◌+◌, ◌*◌, ◌^◌, ◌<◌, ◌≤◌, Bool, true, false, List, [], ◌∷◌, ◌++◌, length, map, refl, sym, ap, ◌∙◌, subst, Option, Some, None, arith, append-nil}
-use Rattle.std.proofs.lemmas.Bool.{eqb-true}
+-- A step of a node, all of which was committed: what its moves lead to, and what it sends.
+use Rattle.std.proofs.Common.{◌≡◌, ◌⊎◌, inl, inr, ⊎_elim, ℕ, ◌+◌, ◌*◌, ◌^◌, ◌<◌, ◌≤◌, Bool, true, false, List, [], ◌∷◌, ◌++◌, length, map, refl, sym, ap, ◌∙◌, subst, Option, Some, None, arith, append-nil, append_assoc}
+use Rattle.std.proofs.lemmas.Bool.{true≢false, eqb-true}
 use Rattle.std.specs.Prelude.{is_some, unwrap_or, ◌==◌, if◌then◌else◌}
 use Rattle.std.specs.List.{AllByRecursion, flat_map}
 use Rattle.id_table.specs.Ids.{at}
-use Rattle.id_table.specs.Order.{at_new, at_other, same_or_not}
+use Rattle.id_table.specs.Order.{Ascends, at_new, at_other, same_or_not}
 use Rattle.recv_window.specs.Window.{ClassIsTrue}
 use Rattle.session_book.specs.Books.{tunnel_at}
 use Rattle.tunnel_fsm.specs.Rows.{state_number}
+use Rattle.end_names.specs.Names.{node_of}
 use Rattle.end_model.specs.declared.event.Event.{Event}
 use Rattle.end_model.specs.declared.event.Event.TheVariants.{Datagram}
 use Rattle.end_model.specs.declared.moves.Move.{Move}
+use Rattle.end_model.specs.declared.moves.Move.TheVariants as move
+use Rattle.end_model.specs.declared.out.Out.{Out}
+use Rattle.end_model.specs.declared.out.Out.TheVariants.{Send, Up, Gone, Drop, Cause}
+use Rattle.end_model.specs.declared.out.Origin.{Origin}
+use Rattle.end_model.specs.declared.out.Origin.TheVariants as origin
 use Rattle.end_model.specs.Contents.{contents_of}
 use Rattle.end_model.specs.Moments.{is_open}
 use Rattle.end_model.specs.Secrets.{uncovered_event}
-use Rattle.end_model.specs.Tunnels.{Tunnel}
+use Rattle.end_model.specs.Tunnels.{Tunnel, mode_of, is_current}
 use Rattle.end_model.specs.End.{End, Stepped, plain_step}
+use Rattle.world_model.specs.declared.packet.Packet.{Packet}
 use Rattle.world_model.specs.declared.standing.Standing.{Standing}
-use Rattle.world_model.specs.World.{World, Node, Checkpoint, Sender, Deed, IsWhole, no_standing, standing_of, answer_in, with_node, block_of, commits, deed_of, moved_all}
-use Rattle.step_laws.specs.Moves.{Chain}
-use Rattle.step_laws.specs.Steps.{AreKept, IsOfNoStart, IsChain, StepsAreChains, StepsAreNoStarts}
+use Rattle.world_model.specs.World.{World, Node, Checkpoint, Sender, Deed, IsWhole, no_standing, standing_of, answer_in, epoch_of, with_node, block_of, commits, deed_of, moved_all, epoch_sent, packet_from, sent, shown, shown_all}
+use Rattle.step_laws.specs.Letters.{Among, Carries}
+use Rattle.step_laws.specs.Moves.{Does, Chain}
+use Rattle.step_laws.specs.Steps.{AreKept, IsOfNoStart, IsChain, IsDecline, IsOfMoves, StepsAreChains, StepsAreNoStarts}
 use Rattle.step_laws.specs.Ups.{most_reads, ReadsAreFew}
 use Rattle.frame_laws.specs.Codecs.{Codecs}
+use Rattle.frame_laws.proofs.Chains.{moved_more}
+use Rattle.frame_laws.proofs.Deeds.{all_behind}
 use Rattle.book_laws.specs.Books.{booked_control, tunnel_record, IsBook, Fits, StepIsBooked, StepsAreBooked}
 use Rattle.node_laws.specs.Nodes.{HoldsUp}
-use Rattle.channel_laws.specs.Accounts.{History, history_from}
-use Rattle.channel_laws.specs.Facts.{makes, EndOk, BookOk, NodeOk, Holds}
+use Rattle.channel_laws.specs.Accounts.{Part, Unmade, Opener, Acceptor, Renewed, History, after, history_from}
+use Rattle.channel_laws.specs.Facts.{IsMade, makes, EndOk, BookOk, NodeOk, PacketOk, Holds}
 use Rattle.channel_laws.specs.Lines.{AreSame, Finds, ComesIn}
+use Rattle.channel_laws.specs.Recoveries.{WrittenIsRead, WrittenHasRoom}
 use Rattle.channel_laws.specs.Steps.{Comes, Keeps}
 use Rattle.channel_laws.specs.Whole.{IsAlong}
-use Rattle.channel_laws.proofs.Agreeing.{Agree, agree_on, put_agrees}
+use Rattle.channel_laws.proofs.Agreeing.{Agree, agree_on, put_agrees, chain_epoch}
 use Rattle.channel_laws.proofs.Arriving.{comes_first}
 use Rattle.channel_laws.proofs.Budgets.{ActiveBelow, Below, active_first}
 use Rattle.channel_laws.proofs.Committing.{whole_book}
-use Rattle.channel_laws.proofs.Looks.{SameLook, same_look, look_back, look_on, all_look, looks_so, count_alike, end_agrees, node_agrees, packets_agree, holds_agrees}
+use Rattle.channel_laws.proofs.Inactive.{IsInactive}
+use Rattle.channel_laws.proofs.Looks.{SameLook, CountAlike, same_look, look_back, look_on, all_look, looks_so, count_alike, end_agrees, node_agrees, packets_agree, holds_agrees}
+use Rattle.channel_laws.proofs.Mailing.{with_mail, mail_alike, all_joined}
 use Rattle.channel_laws.proofs.OfEnds.{book_ok}
-use Rattle.channel_laws.proofs.Stepping.{reads_in, told, deed, Amid, Led, leads}
+use Rattle.channel_laws.proofs.Refusing.{declined_for, decline_sent}
+use Rattle.channel_laws.proofs.Sending.{FramesFit, carries_ok}
+use Rattle.channel_laws.proofs.Stepping.{chain_both, reads_in, fits_there, Amid, Led, leads}
 
 -- the laws of steps that are used
 pub record StepLaws : Type 0 where
@@ -43,6 +58,65 @@ pub record StepLaws : Type 0 where
   pub no_starts : StepsAreNoStarts
   pub reads : ReadsAreFew
   pub booked : StepsAreBooked
+  pub again : WrittenIsRead
+  pub has_room : WrittenHasRoom
+
+-- ---- lists of moves
+
+-- one of them, and those before and behind it
+record IsSplit (moment : ℕ) (ev : Event) (e z : End) (m : Move) (ms : List Move) : Type 0 where
+  before : List Move
+  behind : List Move
+  is : ms ≡ before ++ (m ∷ behind)
+  from : End
+  to : End
+  comes : Chain moment ev e before from
+  does : Does from moment ev m to
+  goes : Chain moment ev to behind z
+
+split : (moment : ℕ) (ev : Event) (e z : End) (m : Move) (ms : List Move) → Among m ms → Chain moment ev e ms z → IsSplit moment ev e z m ms
+split moment ev e z m [] none chain = absurd none
+split moment ev e z m (k ∷ ks) (inl same) chain = record {
+  before = [];
+  behind = ks;
+  is = ap (λ q. q ∷ ks) same;
+  from = e;
+  to = chain.0;
+  comes = refl;
+  does = subst (λ q. Does e moment ev q chain.0) same chain.1;
+  goes = chain.2;
+}
+split moment ev e z m (k ∷ ks) (inr more) chain =
+    let s = split moment ev chain.0 z m ks more chain.2 in
+    record {
+      before = k ∷ s.before;
+      behind = s.behind;
+      is = ap (λ q. k ∷ q) s.is;
+      from = s.from;
+      to = s.to;
+      comes = (chain.0, chain.1, s.comes);
+      does = s.does;
+      goes = s.goes;
+    }
+
+deeds_more : (f : Move → Deed) (ms ns : List Move) (h : History) → history_from (map f ns) (history_from (map f ms) h) ≡ history_from (map f (ms ++ ns)) h
+unfolding history_from
+deeds_more f [] ns h = refl
+deeds_more f (m ∷ ms) ns h = deeds_more f ms ns (after h (f m))
+
+deed_last : (f : Move → Deed) (ms : List Move) (m : Move) (h : History) → history_from (map f (ms ++ m ∷ [])) h ≡ after (history_from (map f ms) h) (f m)
+unfolding history_from
+deed_last f [] m h = refl
+deed_last f (k ∷ ks) m h = deed_last f ks m (after h (f k))
+
+-- ---- what is sent
+
+sent_is : (w : World) (ps : List Packet) (n q : ℕ) (bytes : List ℕ) (o : Origin)
+    → sent (with_mail w ps) n q bytes o ≡ with_mail w (ps ++ packet_from n q bytes o (epoch_sent w n o) ∷ [])
+unfolding sent standing_of
+sent_is w ps n q bytes (origin.Control c) = refl
+sent_is w ps n q bytes (origin.Data session) = refl
+sent_is w ps n q bytes (origin.Recovery own number empty) = refl
 
 reads_once : (ev : Event) → most_reads ev ≤ 1
 reads_once (Datagram peer bytes) = omega arith
@@ -183,7 +257,7 @@ module _ (laws : StepLaws) (any : (m : Move) → IsOfNoStart m → Keeps m) (cod
   abbrev pub h1 : History
   h1 = history_from (map deed_in s.moves) h
 
-  all : IsLed w h s.moves s.end h1
+  pub all : IsLed w h s.moves s.end h1
   all = led_to s.moves [] s.end (sym (append-nil s.moves)) is_chain.chain refl
 
   -- ---- the world in which they are told
@@ -224,3 +298,155 @@ module _ (laws : StepLaws) (any : (m : Move) → IsOfNoStart m → Keeps m) (cod
 
   pub below1 : Below h1 limit
   below1 = all.amid.below
+
+  -- ---- what it sends
+
+  end_there : (made : List Move) (y : End) (v : World) (g : History) → IsAmid made y v g → EndOk v g n y
+  end_there made y v g amid =
+      let both : EndOk v g n amid.node.end × BookOk g n amid.node.checkpoint.book = subst (NodeOk v g n) amid.there (amid.holds.nodes n) in
+      subst (EndOk v g n) amid.end both.0
+
+  -- a packet that is as what was done says up to some move, is so as the step leaves it
+  carried_on : (p : Packet) (made rest : List Move) (y : End) (v : World) (g : History) → g ≡ history_from (map deed_in made) h → s.moves ≡ made ++ rest → Chain moment read e0 made y
+      → Chain moment read y rest s.end → IsAmid made y v g → PacketOk v g p → PacketOk w1 h1 p
+  carried_on p made rest y v g g_is are comes_so goes amid ok =
+      let led = led_on made rest y v g amid are comes_so goes in
+      let k1 = history_from (map deed_in rest) g in
+      let at_end : IsAmid s.moves s.end led.world k1 = subst (λ l. IsAmid l s.end led.world k1) (sym are) led.amid in
+      let same : k1 ≡ h1 = ap (history_from (map deed_in rest)) g_is ∙ (deeds_more deed_in made rest h ∙ ap (λ l. history_from (map deed_in l) h) (sym are)) in
+      subst (λ q. PacketOk w1 q p) same (packets_agree led.world w1 k1 (count_alike led.world w1 at_end.agrees) (p ∷ []) (led.mail p ok, tt)).0
+
+  module _ (made rest : List Move) (y : End) (are : s.moves ≡ made ++ rest) (comes_so : Chain moment read e0 made y) (goes : Chain moment read y rest s.end) where
+    frames_fit : FramesFit made
+    frames_fit f among =
+        let sp = split moment read e0 y (move.FrameSent f) made among comes_so in
+        let after_it = sp.behind ++ rest in
+        let is : s.moves ≡ sp.before ++ (move.FrameSent f ∷ after_it) = are ∙ (ap (λ l. l ++ rest) sp.is ∙ append_assoc sp.before (move.FrameSent f ∷ sp.behind) rest) in
+        let led = led_to sp.before (move.FrameSent f ∷ after_it) sp.from is sp.comes (sp.to, sp.does, chain_both moment read sp.to y s.end sp.behind rest sp.goes goes) in
+        let ok = end_there sp.before sp.from led.world (history_from (map deed_in sp.before) h) led.amid in
+        let remote = sp.does.remote in
+        let lt = (ok.live f.tunnel sp.does.tunnel sp.does.there).calls f.session sp.does.call sp.does.calls in
+        omega (arith, remote, lt)
+
+    starts_rest : AllByRecursion IsOfNoStart rest
+    starts_rest = all_behind IsOfNoStart made rest (subst (AllByRecursion IsOfNoStart) are starts)
+
+    epoch_told : (v : World) (g : History) → IsAmid made y v g → (i : ℕ) (t : Tunnel) → at y.tunnels i ≡ Some t → is_current (mode_of t.recovery) ≡ true → epoch_of w1 n i ≡ epoch_of v n i
+    epoch_told v g amid i t there current =
+        ap (λ q. epoch_of q n i) (ap (λ l. moved_all n l b0) are ∙ moved_more n made rest b0)
+        ∙ (chain_epoch n moment read y s.end rest starts_rest goes order i (inl never) (moved_all n made b0) ∙ ap (λ (st : Standing). st.epoch) (amid.agrees.standings n i))
+      where
+        order : (q : End) (part left : List Move) → rest ≡ part ++ left → Chain moment read y part q → Ascends q.tunnels
+        order q part left is from =
+            (fits_there any codecs J n sender moment read along number w b0 e0 s.end c0 fit0 book0 s.moves starts is_chain.chain top limit (omega arith) (omega arith) (omega (arith, room)) few
+            (made ++ part) left q (are ∙ (ap (λ l. made ++ l) is ∙ sym (append_assoc made part left))) (chain_both moment read e0 y q made part comes_so from)).tables.order
+
+        never : IsInactive y i → ⊥
+        never k1 = let two = sym there ∙ k1.there in let one : t ≡ k1.tunnel = cc in
+            true≢false (sym current ∙ (ap (λ (q : Tunnel). is_current (mode_of q.recovery)) one ∙ k1.inactive))
+
+    amid_sent : (peer : ℕ) (bytes : List ℕ) (o : Origin) (i : ℕ) (t : Tunnel) → at y.tunnels i ≡ Some t → peer ≡ t.control.peer → Carries y.role y.config t made bytes o
+        → PacketOk w1 h1 (packet_from n (node_of peer) bytes o (epoch_sent w1 n o))
+    amid_sent peer bytes o i t there peer_is carries =
+        let g = history_from (map deed_in made) h in
+        let led = led_to made rest y are comes_so goes in
+        carried_on (packet_from n (node_of peer) bytes o (epoch_sent w1 n o)) made rest y led.world g refl are comes_so goes led.amid
+        (carries_ok led.world g led.amid.holds n y (end_there made y led.world g led.amid) limit led.amid.below (omega (arith, room)) w1 i t there
+        (λ current. epoch_told led.world g led.amid i t there current) peer peer_is bytes made frames_fit o carries)
+
+  -- a StopCCN of no tunnel tells no epoch
+  no_epoch : epoch_of w1 n 0 ≡ 0
+  no_epoch = ap (λ (st : Standing). st.epoch) ((holds1.standings n 0).none unmade)
+    where
+      unmade : (h1.accounts n 0 0).part ≡ Unmade
+      unmade = by (h1.accounts n 0 0).part refl
+        where
+          never : IsMade (h1.accounts n 0 0) → ⊥
+          never made = let lt = (holds1.accounts n 0 0).some made in omega (arith, lt)
+
+          by : (p : Part) → (h1.accounts n 0 0).part ≡ p → p ≡ Unmade
+          by Unmade own_part = refl
+          by Opener own_part = absurd (never (λ z. let two : Opener ≡ Unmade = sym own_part ∙ z in absurd cc))
+          by Acceptor own_part = absurd (never (λ z. let two : Acceptor ≡ Unmade = sym own_part ∙ z in absurd cc))
+          by Renewed own_part = absurd (never (λ z. let two : Renewed ≡ Unmade = sym own_part ∙ z in absurd cc))
+
+  decline_ok : (peer : ℕ) (bytes : List ℕ) (o : Origin) → IsDecline s.moves peer bytes o → PacketOk w1 h1 (packet_from n (node_of peer) bytes o (epoch_sent w1 n o))
+  decline_ok peer bytes o dec =
+      let m = dec.declined in
+      let mv = move.Declined m in
+      let sp = split moment read e0 s.end mv s.moves dec.there is_chain.chain in
+      let g = history_from (map deed_in sp.before) h in
+      let led = led_to sp.before (mv ∷ sp.behind) sp.from sp.is sp.comes (sp.to, sp.does, sp.goes) in
+      let for = declined_for codecs laws.again laws.has_room led.world g led.amid.holds n sp.from sp.to sender read led.amid.comes m sp.does in
+      let lt = (end_there sp.before sp.from led.world g led.amid).node in
+      let made = sp.before ++ mv ∷ [] in
+      let are : s.moves ≡ made ++ sp.behind = sp.is ∙ sym (append_assoc sp.before (mv ∷ []) sp.behind) in
+      let came = chain_both moment read e0 sp.from sp.to sp.before (mv ∷ []) sp.comes (sp.to, sp.does, refl) in
+      let led2 = led_to made sp.behind sp.to are came sp.goes in
+      let g2 = history_from (map deed_in made) h in
+      let last : g2 ≡ after g (deed_in mv) = deed_last deed_in sp.before mv h in
+      let none : epoch_sent w1 n o ≡ 0 = ap (epoch_sent w1 n) dec.origin_is ∙ no_epoch in
+      subst (λ u. PacketOk w1 h1 (packet_from n (node_of peer) bytes o u)) (sym none)
+      (carried_on (packet_from n (node_of peer) bytes o 0) made sp.behind sp.to led2.world g2 refl are came sp.goes led2.amid
+      (subst (λ q. PacketOk led2.world q (packet_from n (node_of peer) bytes o 0)) (sym last)
+      (decline_sent led2.world g (deed_in mv) n m lt refl for peer bytes o dec.peer_is dec.bytes_are dec.origin_is)))
+
+  abbrev OutOk : Out → Type 0
+  OutOk (Send peer bytes o) = PacketOk w1 h1 (packet_from n (node_of peer) bytes o (epoch_sent w1 n o))
+  OutOk (Up session side frame) = Unit {0}
+  OutOk (Gone session) = Unit {0}
+  OutOk (Drop x) = Unit {0}
+  OutOk (Cause x) = Unit {0}
+
+  out_ok : (o : Out) → IsOfMoves moment read e0 s.moves s.end o → OutOk o
+  out_ok (Send peer bytes o) (inl k1) = amid_sent k1.amid.made k1.amid.rest k1.amid.end k1.amid.moves_are k1.amid.comes k1.amid.goes peer bytes o k1.id k1.tunnel k1.there k1.peer_is k1.carries
+  out_ok (Send peer bytes o) (inr k1) = decline_ok peer bytes o k1
+  out_ok (Up session side frame) k1 = tt
+  out_ok (Gone session) k1 = tt
+  out_ok (Drop x) k1 = tt
+  out_ok (Cause x) k1 = tt
+
+  record IsShown (u : World) : Type 0 where
+    mail : List Packet
+    is : u ≡ with_mail w1 mail
+    all : AllByRecursion (PacketOk w1 h1) mail
+
+  shows : (os : List Out) (ps : List Packet) → AllByRecursion (IsOfMoves moment read e0 s.moves s.end) os → AllByRecursion (PacketOk w1 h1) ps → IsShown (shown_all n os (with_mail w1 ps))
+  unfolding shown_all shown
+  shows [] ps of ok = record { mail = ps; is = refl; all = ok }
+  shows (Send peer bytes o ∷ os) ps of ok =
+      let p = packet_from n (node_of peer) bytes o (epoch_sent w1 n o) in
+      subst (λ u. IsShown (shown_all n os u)) (sym (sent_is w1 ps n (node_of peer) bytes o))
+      (shows os (ps ++ p ∷ []) of.1 (all_joined (PacketOk w1 h1) ps p ok (out_ok (Send peer bytes o) of.0)))
+  shows (Up session side frame ∷ os) ps of ok = shows os ps of.1 ok
+  shows (Gone session ∷ os) ps of ok = shows os ps of.1 ok
+  shows (Drop x ∷ os) ps of ok = shows os ps of.1 ok
+  shows (Cause x ∷ os) ps of ok = shows os ps of.1 ok
+
+  all_shown : IsShown (shown_all n s.outputs w1)
+  all_shown = shows s.outputs w1.packets is_chain.outputs holds1.packets
+
+  abbrev pub w2 : World
+  w2 = shown_all n s.outputs w1
+
+  shown_alike : CountAlike w1 w2
+  shown_alike = subst (CountAlike w1) (sym all_shown.is) (mail_alike w1 all_shown.mail)
+
+  pub alike2 : CountAlike all.world w2
+  alike2 = record {
+    standings = λ m j. shown_alike.standings m j ∙ all.amid.agrees.standings m j;
+    makes_as = λ m c. shown_alike.makes_as m c ∙ all.amid.agrees.makes_as m c;
+  }
+
+  pub holds2 : Holds w2 h1
+  holds2 =
+      subst (λ u. Holds u h1) (sym all_shown.is)
+      (let u = with_mail w1 all_shown.mail in
+      let alike = mail_alike w1 all_shown.mail in
+      holds_agrees w1 u h1 alike holds1 (λ q. node_agrees w1 u h1 alike q (at w1.nodes q) (at w1.nodes q) (same_look (at w1.nodes q)) (holds1.nodes q))
+      (packets_agree w1 u h1 alike all_shown.mail all_shown.all))
+
+  pub others2 : (q : ℕ) → (q ≡ n → ⊥) → SameLook (at all.world.nodes q) (at w2.nodes q)
+  others2 q o =
+      subst (λ (u : World). SameLook (at all.world.nodes q) (at u.nodes q)) (sym all_shown.is)
+      (look_on (at all.world.nodes q) (at w.nodes q) (at w1.nodes q) (look_back (at w.nodes q) (at all.world.nodes q) (all.amid.others q o)) (others_look q o))

@@ -65,6 +65,6 @@ mod Budgets
 mod Moving
 pub mod Stepping
 mod Committing
-mod Ending
 mod Refusing
 mod Sending
+mod Ending

@@ -15,16 +15,11 @@ use Rattle.world_model.specs.declared.standing.Standing.{Standing}
 use Rattle.world_model.specs.World.{World, Node, standing_of, epoch_of, answer_in, with_node, with_birth, with_birth_at, is_born, with_standing, with_standing_at, with_answer_at, has_made, makes_epoch, enters_epoch, birth_of, moved, moved_all}
 use Rattle.channel_laws.specs.Accounts.{History}
 use Rattle.channel_laws.specs.Facts.{makes, IsRecovered, ChannelOk, LiveOk, EndOk, BookOk, NodeOk, StandingOk, PacketOk, Holds}
+pub use Rattle.channel_laws.specs.Whole.{SameLook, CountAlike}
 use Rattle.channel_laws.proofs.Agreeing.{Agree}
 use Rattle.channel_laws.proofs.Growing.{Grows, account_grows, answers_grow, packets_grow}
 
 -- ---- the same end and checkpoint
-
-abbrev pub SameLook : Option Node → Option Node → Type 0
-SameLook None None = Unit {0}
-SameLook None (Some b) = ⊥
-SameLook (Some a) None = ⊥
-SameLook (Some a) (Some b) = (b.end ≡ a.end) × (b.checkpoint ≡ a.checkpoint)
 
 pub same_look : (o : Option Node) → SameLook o o
 same_look None = tt
@@ -121,10 +116,6 @@ looks_so a None p = absurd p
 looks_so a (Some b) p = (b, refl, p.0, p.1)
 
 -- ---- worlds whose standings and answers are the same
-
-pub record CountAlike (v u : World) : Type 0 where
-  pub standings : (m j : ℕ) → standing_of u m j ≡ standing_of v m j
-  pub makes_as : (m c : ℕ) → makes u m c ≡ makes v m c
 
 pub count_alike : (v u : World) → Agree v u → CountAlike v u
 count_alike v u g = record { standings = g.standings; makes_as = g.makes_as }

@@ -80,7 +80,7 @@ moved_mail n (move.ResetAnswering m) w ps = enters_mail w ps n m.tunnel (answer_
 moved_mail n m w ps = refl
 
 -- all of it but the packets stays
-mail_alike : (w : World) (ps : List Packet) → CountAlike w (with_mail w ps)
+pub mail_alike : (w : World) (ps : List Packet) → CountAlike w (with_mail w ps)
 unfolding standing_of
 mail_alike w ps = record { standings = λ m j. refl; makes_as = λ m c. refl }
 
@@ -93,7 +93,7 @@ still_there [] ys k x h = absurd cc
 still_there (y ∷ xs) ys zero x h = h
 still_there (y ∷ xs) ys (suc k) x h = still_there xs ys k x h
 
-all_joined : {X : Type 0} (P : X → Type 0) (xs : List X) (x : X) → AllByRecursion P xs → P x → AllByRecursion P (xs ++ x ∷ [])
+pub all_joined : {X : Type 0} (P : X → Type 0) (xs : List X) (x : X) → AllByRecursion P xs → P x → AllByRecursion P (xs ++ x ∷ [])
 all_joined P [] x all one = (one, tt)
 all_joined P (y ∷ xs) x all one = (all.0, all_joined P xs x all.1 one)
 

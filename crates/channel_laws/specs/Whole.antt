@@ -1,13 +1,16 @@
--- A whole step of a node: its moves, each made where those before it lead.
-use Rattle.std.specs.Prelude.{ℕ, List, [], ◌∷◌, ◌++◌, Option}
+-- A whole step of a node: its moves, each made where those before it lead; what is committed then, and what is sent.
+use Rattle.std.specs.Prelude.{◌≡◌, ℕ, ◌+◌, ◌^◌, ◌<◌, ◌≤◌, List, [], ◌∷◌, ◌++◌, length, Option, Some, None}
+use Rattle.id_table.specs.Ids.{at}
 use Rattle.end_model.specs.declared.event.Event.{Event}
 use Rattle.end_model.specs.declared.moves.Move.{Move}
-use Rattle.end_model.specs.End.{End}
-use Rattle.world_model.specs.World.{World, Node, Sender, Deed}
+use Rattle.end_model.specs.Secrets.{uncovered_event}
+use Rattle.end_model.specs.End.{End, Stepped, step}
+use Rattle.world_model.specs.World.{World, Node, Sender, Deed, Lined, standing_of, block_of}
 use Rattle.step_laws.specs.Steps.{IsOfNoStart}
-use Rattle.channel_laws.specs.Accounts.{History, after}
-use Rattle.channel_laws.specs.Facts.{Holds}
+use Rattle.channel_laws.specs.Accounts.{History, after, history_from}
+use Rattle.channel_laws.specs.Facts.{makes, Holds, NodesHold}
 use Rattle.channel_laws.specs.Epochs.{EpochsKnown}
+use Rattle.channel_laws.specs.Lines.{WholeStep}
 use Rattle.channel_laws.specs.Steps.{moves_on, IsMoved}
 
 -- what else is kept along the moves of a step: of the world and of what was done up to some move, and of the moves up to it. It tells what the channels
@@ -17,3 +20,58 @@ pub record IsAlong (J : World → History → List Move → Type 0) (n : ℕ) (s
   pub moves : (w : World) (h : History) (made : List Move) (node : Node) (m : Move) (x : End) (d : Deed) → IsOfNoStart m
       → IsMoved w h n node sender moment ev m x d → J w h made → Holds (moves_on w n node m x) (after h d)
       → J (moves_on w n node m x) (after h d) (made ++ m ∷ [])
+
+-- where moves lead, from a world and what was done before
+pub data Leads (n : ℕ) (sender : Option Sender) (moment : ℕ) (ev : Event) (w0 : World) (h0 : History) : List Move → World → History → Type 0 where
+  NoMove : Leads n sender moment ev w0 h0 [] w0 h0
+  OneMore : (made : List Move) (w : World) (h : History) (node : Node) (m : Move) (x : End) (d : Deed) → IsOfNoStart m → Leads n sender moment ev w0 h0 made w h
+      → IsMoved w h n node sender moment ev m x d → Leads n sender moment ev w0 h0 (made ++ m ∷ []) (moves_on w n node m x) (after h d)
+
+-- no channel was given more letters than so many
+abbrev pub Below : History → ℕ → Type 0
+Below h most = (n i e : ℕ) → length (h.accounts n i e).given ≤ most
+
+-- a node has the same end and the same checkpoint
+abbrev pub SameLook : Option Node → Option Node → Type 0
+SameLook None None = Unit {0}
+SameLook None (Some b) = ⊥
+SameLook (Some a) None = ⊥
+SameLook (Some a) (Some b) = (b.end ≡ a.end) × (b.checkpoint ≡ a.checkpoint)
+
+-- two worlds keep the same of each tunnel and each answer
+pub record CountAlike (v u : World) : Type 0 where
+  pub standings : (m j : ℕ) → standing_of u m j ≡ standing_of v m j
+  pub makes_as : (m c : ℕ) → makes u m c ≡ makes v m c
+
+-- ---- a whole step
+
+abbrev pub stepped_in : (w : World) (number : ℕ) (x : Lined) → WholeStep w number x → Stepped
+stepped_in w number x s = step s.found.end s.found.clock (block_of s.node number) s.event
+
+-- its moves lead so
+abbrev pub LeadsIn : (w : World) (h : History) (number : ℕ) (x : Lined) → WholeStep w number x → List Move → World → History → Type 0
+LeadsIn w h number x s = Leads s.node s.sender s.found.clock (uncovered_event s.found.end.config.secret s.event) w h
+
+-- before its moves, and after each of them, the epochs are known
+abbrev pub KnowsAlong : (w : World) (h : History) (number : ℕ) (x : Lined) → WholeStep w number x → Type 0
+KnowsAlong w h number x s = (made : List Move) (v : World) (g : History) → LeadsIn w h number x s made v g → Holds v g → EpochsKnown v g
+
+-- what it leaves: all holds again, and no channel was given more than 81,919 letters more than any was before. All its moves lead to a world
+-- in which its node has the end that the step leaves, and still the checkpoint that it had before; what is kept of tunnels and answers, and each
+-- other node, are in it as the step leaves them
+pub record WholeKept (w : World) (h : History) (number : ℕ) (x : Lined) (s : WholeStep w number x) (most : ℕ) : Type 0 where
+  pub holds : Holds x.world (history_from x.done h)
+  pub below : Below (history_from x.done h) (most + 81919)
+  pub behind : World
+  pub leads : LeadsIn w h number x s (stepped_in w number x s).moves behind (history_from x.done h)
+  pub holds_behind : Holds behind (history_from x.done h)
+  pub node : Node
+  pub there : at behind.nodes s.node ≡ Some node
+  pub end : node.end ≡ (stepped_in w number x s).end
+  pub checkpoint : node.checkpoint ≡ s.found.checkpoint
+  pub alike : CountAlike behind x.world
+  pub others : (q : ℕ) → (q ≡ s.node → ⊥) → SameLook (at behind.nodes q) (at x.world.nodes q)
+
+abbrev pub WholeStepsKeep : Type 0
+WholeStepsKeep = (w : World) (h : History) (number : ℕ) (x : Lined) (s : WholeStep w number x) (most : ℕ) → NodesHold w → Holds w h → Below h most → most + 147460 < 2 ^ 64
+    → KnowsAlong w h number x s → WholeKept w h number x s most
