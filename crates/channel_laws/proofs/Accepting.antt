@@ -1,28 +1,24 @@
 -- A tunnel is accepted.
-use Rattle.std.proofs.Common.{◌≡◌, ◌⊎◌, inl, inr, ⊎_elim, ℕ, zero, suc, ◌+◌, ◌<◌, ◌≤◌, true, false, List, [], ◌∷◌, ◌++◌, length, drop, map, refl, sym, ap, ap₂, ◌∙◌, subst, Option, Some, None, Ok, arith, ne_eqb}
+use Rattle.std.proofs.Common.{◌≡◌, ◌⊎◌, inl, inr, ⊎_elim, ℕ, ◌+◌, ◌<◌, ◌≤◌, false, List, [], ◌∷◌, refl, sym, ap, ap₂, ◌∙◌, subst, Option, Some, None, Ok, arith, ne_eqb}
 use Rattle.std.proofs.lemmas.Bool.{true≢false}
 use Rattle.std.proofs.lemmas.Option.{none-some, slice_get_within}
 use Rattle.std.specs.Prelude.{slice_get}
 use Rattle.id_source.specs.Spaces.{Space, after_id, draw_is, next_is}
-use Rattle.id_table.specs.Ids.{at, at-none}
-use Rattle.l2tp_header.specs.declared.header.Header.{Header}
+use Rattle.id_table.specs.Ids.{at-none}
 use Rattle.l2tp_header.specs.Reading.{body_of}
 use Rattle.control_message.specs.declared.message.Message.{Message}
 use Rattle.control_message.specs.declared.message.Message.TheVariants.{Sccrq, Sccrp, Scccn, StopCcn}
 use Rattle.control_message.specs.declared.message.Opening.{Opening}
 use Rattle.session_book.specs.declared.record.BookTunnel.{BookTunnel}
-use Rattle.session_book.specs.Books.{tunnel_at}
 use Rattle.tunnel_fsm.specs.Rows.{state_number}
 use Rattle.tunnel_fsm.specs.declared.table.TunnelState.TheVariants.{WaitCtlConn}
 use Rattle.end_names.specs.Names.{address_of, node_of}
 use Rattle.end_model.specs.declared.event.Event.{Event}
 use Rattle.end_model.specs.declared.moves.Accepted.{Accepted}
 use Rattle.end_model.specs.declared.moves.Place.{Place}
-use Rattle.end_model.specs.declared.moves.Restored.{Restored}
 use Rattle.end_model.specs.declared.moves.Move.TheVariants as move
-use Rattle.end_model.specs.declared.out.ControlOrigin.{ControlOrigin}
 use Rattle.end_model.specs.declared.tunnel.Control.{Control}
-use Rattle.end_model.specs.Tunnels.{Tunnel, new_tunnel, mode_of, is_current}
+use Rattle.end_model.specs.Tunnels.{Tunnel, new_tunnel}
 use Rattle.end_model.specs.Channels.{letter_of, counts_taken}
 use Rattle.end_model.specs.Messages.{flags_of, opening_of}
 use Rattle.end_model.specs.Reading.{message_in}
@@ -34,20 +30,20 @@ use Rattle.step_laws.specs.Letters.{Letter}
 use Rattle.step_laws.specs.Moves.{Came, with_tunnel, with_letter, begun, learns_window}
 use Rattle.frame_laws.specs.Codecs.{Codecs}
 use Rattle.book_laws.proofs.Lists.{entry_has}
-use Rattle.connection_laws.specs.Facts.{IsNoOpening, kept_letter}
+use Rattle.connection_laws.specs.Facts.{IsNoOpening}
 use Rattle.connection_laws.proofs.Alike.{read_same}
 use Rattle.connection_laws.proofs.Connecting.{IsLearnt, learnt}
 use Rattle.connection_laws.proofs.Hearing.{no_message, first_only}
 use Rattle.connection_laws.proofs.Taking.{got_push}
 use Rattle.connection_laws.proofs.Written.{asks_short, responds_sized, opening_written, same_opening, node_again, node_fits}
-use Rattle.channel_laws.specs.Accounts.{Part, Unmade, Opener, Acceptor, Renewed, Taken, Account, no_account, History, about, gives_also, takes_at, entered_by, after}
-use Rattle.channel_laws.specs.Facts.{IsMade, partner_in, IsTaken, AreTaken, IsOpener, IsAcceptor, IsCopy, SaysRecovery, AsksFor, Suggests, Confirms, Refuses, AccountOk, ChannelOk, LiveOk, EndOk, BookOk, NodeOk, Holds}
+use Rattle.channel_laws.specs.Accounts.{Unmade, Opener, Acceptor, Renewed, Taken, Account, no_account, History, about, gives_also, takes_at, entered_by, after}
+use Rattle.channel_laws.specs.Facts.{IsMade, partner_in, IsTaken, AreTaken, IsAcceptor, IsCopy, SaysRecovery, AsksFor, Suggests, Confirms, Refuses, AccountOk, ChannelOk, LiveOk, EndOk, BookOk, NodeOk, Holds}
 use Rattle.channel_laws.specs.Recoveries.{WrittenIsRead, WrittenHasRoom}
 use Rattle.channel_laws.specs.Steps.{with_end, moves_on, IsMoved}
 use Rattle.channel_laws.proofs.Alone.{puts_so}
 use Rattle.channel_laws.proofs.Coming.{FromTunnel, OfNoTunnel, OfRecovery, heard}
 use Rattle.channel_laws.proofs.Ends.{Puts, put_end_apart}
-use Rattle.channel_laws.proofs.Extending.{Extends, IsOnly}
+use Rattle.channel_laws.proofs.Extending.{IsOnly}
 use Rattle.channel_laws.proofs.Giving.{IsPlainDeed, becomes_so, only_so}
 use Rattle.channel_laws.proofs.Later.{IsAlike, IsUnbooked, StaysJoined, live_later, holds_later}
 use Rattle.channel_laws.proofs.Linked.{part_cases, opener_of, acceptor_of, renewed_of, first_or_later}

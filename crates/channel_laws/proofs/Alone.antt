@@ -1,9 +1,9 @@
 -- The moves of a live tunnel as those of the end that has that tunnel alone; and what they make of its account.
-use Rattle.std.proofs.Common.{◌≡◌, ◌⊎◌, inl, inr, ⊎_elim, ℕ, ◌+◌, ◌<◌, ◌≤◌, Bool, true, false, List, [], ◌∷◌, ◌++◌, length, refl, sym, ap, ◌∙◌, subst, Option, Some, None, Ok, arith, append-nil, append_assoc}
-use Rattle.id_table.specs.Ids.{at, put}
+use Rattle.std.proofs.Common.{◌≡◌, ◌⊎◌, inr, ⊎_elim, ℕ, List, [], ◌∷◌, ◌++◌, refl, sym, ap, ◌∙◌, subst, Option, Some, arith, append-nil, append_assoc}
+use Rattle.id_table.specs.Ids.{at}
 use Rattle.id_table.specs.Order.{at_new}
 use Rattle.wire_base.specs.declared.why.Why.{Why}
-use Rattle.std.specs.Prelude.{Result, unwrap_or}
+use Rattle.std.specs.Prelude.{Result}
 use Rattle.control_message.specs.declared.message.Message.{Message}
 use Rattle.control_message.specs.declared.message.Message.TheVariants.{Sccrq, Sccrp, Scccn, StopCcn, Hello, Ocrq, Ocrp, Occn, Icrq, Icrp, Iccn, Cdn, Wen, Sli, Fsq, Fsr}
 use Rattle.tunnel_fsm.specs.Rows.{state_number}
@@ -13,22 +13,19 @@ use Rattle.end_model.specs.declared.event.Event.TheVariants.{Datagram, Ring, Fra
 use Rattle.end_model.specs.declared.moves.Place.{Place}
 use Rattle.end_model.specs.declared.moves.Closed.{Closed}
 use Rattle.end_model.specs.declared.moves.Refused.{Refused}
-use Rattle.end_model.specs.declared.moves.Move.{Move}
-use Rattle.end_model.specs.declared.moves.Move.TheVariants as move
 use Rattle.end_model.specs.Reading.{CallFault}
-use Rattle.end_model.specs.Tunnels.{Tunnel, mode_of, is_current}
+use Rattle.end_model.specs.Tunnels.{Tunnel}
 use Rattle.end_model.specs.End.{End}
-use Rattle.world_model.specs.World.{Sender, Deed, World, Node}
+use Rattle.world_model.specs.World.{Sender, Deed, World}
 use Rattle.step_laws.specs.Callers.{IsRing, WantsTunnel, LacWants}
 use Rattle.step_laws.specs.Arrivals.{Came, IsNext}
-use Rattle.step_laws.specs.Moves.{Taking, IsIdInUse, GrantsCall, DeniesCall, AsksItself, HasUsedId, HasAllCalls, HasNoSession, WhyRefused, IsNotGranted, IsOutgoing, IsReplyToNone, IsWrong, IsPlain, WhyCloses, ByOperator, ByLetter}
+use Rattle.step_laws.specs.Moves.{Taking, GrantsCall, DeniesCall, AsksItself, HasUsedId, HasAllCalls, HasNoSession, WhyRefused, IsNotGranted, IsOutgoing, IsReplyToNone, IsWrong, IsPlain, WhyCloses, ByOperator, ByLetter}
 use Rattle.connection_laws.specs.Facts as calm_facts
 use Rattle.connection_laws.specs.Facts.{AllWait}
-use Rattle.channel_laws.specs.Accounts.{Part, Unmade, Opener, Acceptor, Renewed, Taken, Account, History, declines_of, attempts_by, answers_by, gives, gives_also, takes_at}
+use Rattle.channel_laws.specs.Accounts.{Part, Unmade, Opener, Acceptor, Renewed, Taken, Account, History, gives, gives_also, takes_at}
 use Rattle.channel_laws.specs.Facts.{Accounts, partner_in, IsOpen, IsShut, IsInState, EndOk}
 use Rattle.channel_laws.proofs.Ends.{Puts, IsAlone}
 use Rattle.channel_laws.proofs.Extending.{Extends}
-use Rattle.channel_laws.proofs.Giving.{IsPlainDeed}
 use Rattle.channel_laws.proofs.Calm.{bare}
 use Rattle.channel_laws.proofs.FirstMoves.{alone_in}
 

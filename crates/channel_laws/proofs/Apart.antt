@@ -1,13 +1,11 @@
 -- No two tunnels of a node have the same other end: the id of another node's that a tunnel goes to is that of one which names it, or which opened it.
-use Rattle.std.proofs.Common.{◌≡◌, ◌⊎◌, inl, inr, ⊎_elim, ℕ, ◌<◌, Bool, true, false, refl, sym, ap, ap₂, ◌∙◌, subst, Some, None, arith}
-use Rattle.id_table.specs.Ids.{at}
-use Rattle.end_names.specs.Names.{address_of}
+use Rattle.std.proofs.Common.{◌≡◌, ◌⊎◌, inl, inr, ⊎_elim, ℕ, Bool, true, false, refl, sym, ap, ap₂, ◌∙◌, subst, arith}
 use Rattle.end_model.specs.Tunnels.{Tunnel, mode_of, is_current}
 use Rattle.end_model.specs.End.{End}
 use Rattle.world_model.specs.World.{World, epoch_of}
 use Rattle.connection_laws.proofs.Hearing.{same_address}
 use Rattle.channel_laws.specs.Accounts.{Part, Unmade, Opener, Acceptor, Renewed, Account, History}
-use Rattle.channel_laws.specs.Facts.{Accounts, IsMade, partner_in, KnowsBy, ByLetter, ByRecord, IsOpener, IsPart, AccountOk, ChannelOk, LiveOk, EndOk, Holds}
+use Rattle.channel_laws.specs.Facts.{KnowsBy, ByLetter, ByRecord, IsOpener, ChannelOk, LiveOk, EndOk, Holds}
 use Rattle.channel_laws.proofs.Linked.{part_cases, opener_of, acceptor_of, renewed_of}
 use Rattle.channel_laws.proofs.Extending.{IsOnly}
 use Rattle.channel_laws.proofs.Ends.{Puts, IsAlone}

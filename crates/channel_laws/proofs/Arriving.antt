@@ -1,5 +1,5 @@
 -- What comes where a step begins: a packet that isn't refused is near each tunnel that it is for.
-use Rattle.std.proofs.Common.{List, ◌≡◌, ⊎_elim, ℕ, ◌+◌, ◌≤◌, ◌<◌, true, refl, sym, ap, ◌∙◌, subst, Option, Some, None, Ok, arith}
+use Rattle.std.proofs.Common.{List, ◌≡◌, ⊎_elim, ℕ, true, refl, sym, ap, ◌∙◌, subst, Option, Some, None, Ok, arith}
 use Rattle.std.specs.Prelude.{slice_get}
 use Rattle.id_table.specs.Ids.{at}
 use Rattle.l2tp_header.specs.declared.header.Header.{Header}
@@ -9,9 +9,8 @@ use Rattle.control_message.specs.declared.message.Message.TheVariants.{Sccrq, St
 use Rattle.control_message.specs.declared.message.Opening.{Opening}
 use Rattle.recv_window.specs.Window.{ClassIsTrue}
 use Rattle.end_names.specs.Names.{address_of}
-use Rattle.end_model.specs.declared.event.Addressee.TheVariants.{Opens, Stops}
 use Rattle.end_model.specs.declared.event.Event.{Event}
-use Rattle.end_model.specs.declared.event.Event.TheVariants.{Datagram, Ring, Frame, Admitted, Payload, Lower, Lcp, Hang, OpenTunnel, DropCall, CloseTunnel, Tick}
+use Rattle.end_model.specs.declared.event.Event.TheVariants.{Datagram}
 use Rattle.end_model.specs.declared.out.Origin.{Origin}
 use Rattle.end_model.specs.declared.out.Origin.TheVariants as origin
 use Rattle.end_model.specs.declared.out.ControlOrigin.{ControlOrigin}

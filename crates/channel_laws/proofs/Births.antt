@@ -1,10 +1,9 @@
 -- A world in which a call is born, or has the birth of the call that is asked for: channels know nothing of it.
-use Rattle.std.proofs.Common.{◌≡◌, ⊎_elim, ℕ, refl, sym, ap, ◌∙◌, subst, Option, Some, None}
+use Rattle.std.proofs.Common.{◌≡◌, ⊎_elim, ℕ, refl, sym, ap, ◌∙◌, subst, Some}
 use Rattle.id_table.specs.Ids.{at, put}
 use Rattle.id_table.specs.Order.{at_new, at_other, same_or_not}
 use Rattle.end_model.specs.End.{End}
 use Rattle.world_model.specs.World.{World, Node, standing_in, standing_of, answer_in, with_node, with_birth, with_birth_at}
-use Rattle.channel_laws.specs.Facts.{makes}
 use Rattle.channel_laws.specs.Steps.{with_end}
 use Rattle.channel_laws.proofs.Entering.{base_here, base_other, base_same, base_makes}
 use Rattle.channel_laws.proofs.Making.{SameNode, same_node}

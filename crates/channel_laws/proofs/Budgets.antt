@@ -1,5 +1,5 @@
 -- How far the numbers of letters go in a step, of whatever epoch.
-use Rattle.std.proofs.Common.{◌≡◌, ◌⊎◌, inl, inr, ⊎_elim, ℕ, ◌+◌, ◌*◌, ◌%◌, ◌^◌, ◌<◌, ◌≤◌, Bool, true, false, cond, eqb, List, [], length, refl, sym, ap, ap₂, ◌∙◌, subst, Option, Some, None, arith}
+use Rattle.std.proofs.Common.{◌≡◌, ◌⊎◌, inl, inr, ⊎_elim, ℕ, ◌+◌, ◌*◌, ◌%◌, ◌^◌, ◌<◌, ◌≤◌, Bool, true, false, cond, eqb, length, refl, sym, ap, ◌∙◌, subst, Some, arith}
 use Rattle.std.proofs.lemmas.Bool.{eqb-true}
 use Rattle.std.proofs.lemmas.Bool.Decides.{nat_tests}
 use Rattle.std.specs.Prelude.{nat_le, ◌==◌, ◌&&◌, if◌then◌else◌}
@@ -11,20 +11,18 @@ use Rattle.control_channel.specs.Numbers.{Numbers, acked_at}
 use Rattle.end_model.specs.declared.event.Event.{Event}
 use Rattle.end_model.specs.declared.moves.Move.{Move}
 use Rattle.end_model.specs.declared.moves.Move.TheVariants as move
-use Rattle.end_model.specs.Tunnels.{Tunnel, ByAttempt, ByAnswer, mode_of, is_current}
+use Rattle.end_model.specs.Tunnels.{Tunnel}
 use Rattle.end_model.specs.End.{End}
 use Rattle.world_model.specs.World.{World, Deed, epoch_of}
 use Rattle.step_laws.specs.Moves.{Does}
 use Rattle.step_laws.specs.Steps.{IsOfNoStart}
 use Rattle.step_laws.specs.Ups.{reads_of_move}
 use Rattle.channel_laws.specs.Accounts.{Part, Unmade, Opener, Acceptor, Renewed, Account, History, about, declines_of, declined_by, declined_in, entered_by, after_deed, after}
-use Rattle.channel_laws.specs.Facts.{IsMade, IsPart, partner_in, ChannelOk, EndOk, AccountOk, Holds}
+use Rattle.channel_laws.specs.Facts.{IsMade, EndOk, Holds}
 use Rattle.channel_laws.specs.Steps.{NumbersFit, CountsFit}
 pub use Rattle.channel_laws.specs.Whole.{Below}
-use Rattle.channel_laws.proofs.Inactive.{IsReset}
 use Rattle.channel_laws.proofs.Linked.{part_cases, opener_of, acceptor_of, renewed_of, unlearned_small, nearby}
-use Rattle.channel_laws.proofs.Numbering.{IsActive, taken_of, acked_of, Counted, Stays, Takes, Reads, Begins, Resets, does_count}
-use Rattle.channel_laws.proofs.Waiting.{reset_current}
+use Rattle.channel_laws.proofs.Numbering.{IsActive, acked_of, Counted, Stays, Takes, Reads, Begins, Resets}
 
 -- ---- what is acknowledged
 

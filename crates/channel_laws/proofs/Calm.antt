@@ -1,21 +1,16 @@
 -- The channels of epoch 0 are those of which connection_laws speaks, as long as one looks at one tunnel of its node alone: what is known of them is known in its
 -- words, and what it says of a move holds in these.
-use Rattle.std.proofs.Common.{◌≡◌, ◌⊎◌, inl, inr, ⊎_elim, ℕ, ◌+◌, ◌<◌, ◌≤◌, true, false, List, [], ◌∷◌, length, map, drop, refl, sym, ap, ap₂, ◌∙◌, subst, Option, Some, None, arith}
-use Rattle.std.specs.Prelude.{slice_get}
-use Rattle.std.specs.List.{AllByRecursion}
+use Rattle.std.proofs.Common.{◌≡◌, inl, inr, ⊎_elim, ℕ, ◌<◌, true, length, map, drop, refl, sym, ap, ◌∙◌, subst, Some, None, arith}
 use Rattle.id_table.specs.Ids.{at}
 use Rattle.id_table.specs.Order.{Ascends}
-use Rattle.tunnel_fsm.specs.Rows.{state_number}
-use Rattle.end_names.specs.Names.{address_of}
 use Rattle.end_model.specs.declared.tunnel.Call.{Call}
-use Rattle.end_model.specs.Tunnels.{Tunnel, Recovering, mode_of, is_current}
-use Rattle.world_model.specs.World.{World, epoch_of}
-use Rattle.step_laws.specs.Letters.{Letter}
+use Rattle.end_model.specs.Tunnels.{Tunnel}
+use Rattle.world_model.specs.World.{World}
 use Rattle.connection_laws.specs.Facts.{AllWait, kept_letter}
 use Rattle.connection_laws.specs.Accounts as calm
 use Rattle.connection_laws.specs.Facts as calm_facts
-use Rattle.channel_laws.specs.Accounts.{Part, Unmade, Opener, Acceptor, Renewed, Taken, Account, no_account, History}
-use Rattle.channel_laws.specs.Facts.{Accounts, IsMade, partner_in, IsTaken, AreTaken, IsLost, IsClosed, IsOpen, IsShut, AreJoined, HasStopped, IsOpener, IsAcceptor, IsPart, AccountOk, IsAnswered, IsInState, AreAcked, ChannelOk, Holds}
+use Rattle.channel_laws.specs.Accounts.{Part, Unmade, Opener, Acceptor, Renewed, Account, History}
+use Rattle.channel_laws.specs.Facts.{IsMade, partner_in, AreJoined, HasStopped, IsOpener, IsAcceptor, IsPart, AccountOk, IsAnswered, IsInState, AreAcked, ChannelOk}
 use Rattle.channel_laws.proofs.Linked.{renewed_of}
 
 -- ---- accounts

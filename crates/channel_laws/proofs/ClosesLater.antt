@@ -1,5 +1,5 @@
 -- A tunnel that is in a later epoch is closed, or takes a letter once it is; and what its other end acknowledges goes.
-use Rattle.std.proofs.Common.{◌≡◌, ◌⊎◌, inl, inr, ⊎_elim, ℕ, ◌+◌, ◌<◌, ◌≤◌, true, false, List, [], ◌∷◌, ◌++◌, length, map, drop, refl, sym, ap, ap₂, ◌∙◌, subst, Option, Some, None, Ok, arith, append-nil}
+use Rattle.std.proofs.Common.{◌≡◌, ◌⊎◌, inl, inr, ⊎_elim, ℕ, ◌+◌, ◌<◌, ◌≤◌, true, List, [], ◌∷◌, ◌++◌, length, map, drop, refl, sym, ap, ap₂, ◌∙◌, subst, Option, Some, None, arith, append-nil}
 use Rattle.std.proofs.lemmas.Bool.{ltb-true}
 use Rattle.std.proofs.lemmas.List.{length-append, drop-append-le, map-append}
 use Rattle.std.proofs.lemmas.Option.{none-some, slice_get_within}
@@ -9,14 +9,12 @@ use Rattle.wire_base.specs.declared.letter.Letter as wire
 use Rattle.id_table.specs.Ids.{at, put, at-none}
 use Rattle.id_source.specs.Spaces.{after_id}
 use Rattle.control_message.specs.declared.message.Message.TheVariants.{StopCcn}
-use Rattle.send_window.specs.Kept.{Window}
 use Rattle.send_window.specs.Window.{count_acked, without_first}
-use Rattle.recv_window.specs.Window.{ClassIsTrue, on_wire}
+use Rattle.recv_window.specs.Window.{ClassIsTrue}
 use Rattle.tunnel_fsm.specs.Rows.{state_number}
 use Rattle.tunnel_fsm.specs.declared.table.TunnelEvent.{TunnelEvent}
 use Rattle.tunnel_fsm.specs.declared.table.TunnelState.TheVariants as state
 use Rattle.end_model.specs.declared.event.Event.{Event}
-use Rattle.end_model.specs.declared.moves.Place.{Place}
 use Rattle.end_model.specs.declared.moves.Added.{Added}
 use Rattle.end_model.specs.declared.moves.TookPlain.{TookPlain}
 use Rattle.end_model.specs.declared.moves.NrRead.{NrRead}
@@ -26,35 +24,33 @@ use Rattle.end_model.specs.declared.moves.Move.{Move}
 use Rattle.end_model.specs.declared.moves.Move.TheVariants as move
 use Rattle.end_model.specs.declared.tunnel.Call.{Call}
 use Rattle.end_model.specs.Calls.{advanced, rung}
-use Rattle.end_model.specs.Channels.{counts_taken, counts_acked, taken_place}
+use Rattle.end_model.specs.Channels.{counts_taken, counts_acked}
 use Rattle.end_model.specs.Tunnels.{Tunnel, mode_of, is_current}
 use Rattle.end_model.specs.End.{End, new_place}
 use Rattle.end_names.specs.declared.role.Role.{Role}
-use Rattle.world_model.specs.World.{World, Node, Sender, Deed, config_of, epoch_of, is_born, moved}
-use Rattle.step_laws.specs.Arrivals.{Came, IsNext}
+use Rattle.world_model.specs.World.{World, Node, Sender, Deed, epoch_of, is_born, moved}
 use Rattle.step_laws.specs.Codes.{stop_codes_fit}
 use Rattle.step_laws.specs.Letters.{Letter}
 use Rattle.step_laws.specs.Moves.{with_tunnel, with_letter, without_calls, WhyCloses, ByOperator, ByLetter}
 use Rattle.frame_laws.specs.Codecs.{Codecs}
-use Rattle.connection_laws.specs.Facts.{IsIgnored, IsNoOpening, IsSpelled, TellsOwn, Tells, kept_letter}
+use Rattle.connection_laws.specs.Facts.{IsNoOpening, IsSpelled, TellsOwn, kept_letter}
 use Rattle.connection_laws.proofs.Acknowledging.{kept_on}
 use Rattle.connection_laws.proofs.Numbers.{IsCount, is_count, IsWithout, without_count}
-use Rattle.connection_laws.proofs.States.{not_closed, closed_so, closes_open}
-use Rattle.channel_laws.specs.Accounts.{Part, Renewed, Taken, Account, heeded, History, gives_also, after, entered_by}
-use Rattle.channel_laws.specs.Facts.{IsOpen, IsClosed, IsShut, AreTaken, AreIgnored, AreEven, IsRenewed, ChannelOk, LiveOk, partner_in, Holds}
+use Rattle.connection_laws.proofs.States.{not_closed, closes_open}
+use Rattle.channel_laws.specs.Accounts.{Renewed, Taken, Account, heeded, History, after, entered_by}
+use Rattle.channel_laws.specs.Facts.{IsOpen, IsClosed, IsShut, AreTaken, AreIgnored, IsRenewed, ChannelOk, partner_in, Holds}
 use Rattle.channel_laws.specs.Recoveries.{WrittenIsRead, WrittenHasRoom}
 use Rattle.channel_laws.specs.Steps.{with_end, moves_on, IsMoved}
 use Rattle.channel_laws.proofs.Alone.{puts_so}
 use Rattle.channel_laws.proofs.Births.{birth_alike}
 use Rattle.channel_laws.proofs.Ends.{Puts}
 use Rattle.channel_laws.proofs.Extending.{IsOnly, got_given, all_extend}
-use Rattle.channel_laws.proofs.Giving.{IsPlainDeed, calls_put}
-use Rattle.channel_laws.proofs.Going.{GoesOn, grows_by}
-use Rattle.channel_laws.proofs.GoingLater.{GoesLater, changes_by, later_holds}
-use Rattle.channel_laws.proofs.HeardLater.{HeardLater, heard_later}
-use Rattle.channel_laws.proofs.Later.{IsAlike, are_taken_later}
-use Rattle.channel_laws.proofs.LaterMoves.{taken_shut, ignored_shut, live_later, channel_so, part_so, renewed_so, state_so, acked_so, is_so, only_there, next_so, enough_so, takes_hold}
-use Rattle.channel_laws.proofs.Linked.{renewed_of}
+use Rattle.channel_laws.proofs.Giving.{calls_put}
+use Rattle.channel_laws.proofs.Going.{grows_by}
+use Rattle.channel_laws.proofs.GoingLater.{changes_by, later_holds}
+use Rattle.channel_laws.proofs.HeardLater.{heard_later}
+use Rattle.channel_laws.proofs.Later.{IsAlike}
+use Rattle.channel_laws.proofs.LaterMoves.{taken_shut, ignored_shut, live_later, channel_so, part_so, renewed_so, state_so, acked_so, is_so, only_there, enough_so, takes_hold}
 use Rattle.channel_laws.proofs.Open.{end_alike, taken_as, takes_only, gives_is}
 use Rattle.channel_laws.proofs.TakesLater.{deed_plain, took_goes}
 

@@ -1,5 +1,5 @@
 -- The book of a checkpoint behind records that are committed: all of them, or those before a stop.
-use Rattle.std.proofs.Common.{◌≡◌, Bool, true, false, ℕ, ◌-◌, zero, suc, List, [], ◌∷◌, length, take, refl, sym, ap, ◌∙◌, subst, Option, Some, None}
+use Rattle.std.proofs.Common.{◌≡◌, Bool, true, false, ℕ, ◌-◌, zero, suc, List, [], ◌∷◌, length, take, refl, ap, ◌∙◌, subst, Option, Some, None}
 use Rattle.std.specs.Prelude.{◌+◌, nat_le, if◌then◌else◌}
 use Rattle.session_book.specs.declared.record.Record.{Record}
 use Rattle.session_book.specs.Books.{Kept, fits, stepped as with_record}

@@ -22,7 +22,7 @@ use Rattle.step_laws.specs.Letters.{Letter, letter_at}
 use Rattle.connection_laws.specs.Facts.{kept_letter}
 use Rattle.connection_laws.proofs.Sent.{got_dropped, mapped}
 use Rattle.connection_laws.proofs.Written.{node_again}
-use Rattle.channel_laws.specs.Accounts.{Part, Unmade, Opener, Acceptor, Renewed, Account, History}
+use Rattle.channel_laws.specs.Accounts.{Opener, Acceptor, Renewed, Account, History}
 use Rattle.channel_laws.specs.Facts.{IsMade, IsLost, ChannelOk, AccountOk, LiveOk, EndOk, Says, ALetter, Nothing, IsCopy, OriginOk, PacketOk, Holds}
 use Rattle.channel_laws.proofs.Linked.{part_cases, opener_of, acceptor_of, renewed_of}
 

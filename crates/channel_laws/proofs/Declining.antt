@@ -1,22 +1,19 @@
 -- An opening is declined: nothing changes at the end that declines it; where it was the SCCRQ of a tunnel, that tunnel's account tells it.
-use Rattle.std.proofs.Common.{◌≡◌, ◌⊎◌, inl, inr, ⊎_elim, ℕ, ◌+◌, ◌<◌, ◌≤◌, Bool, true, false, List, [], ◌∷◌, ◌++◌, length, refl, sym, ap, ap₂, ◌∙◌, subst, Option, Some, None, arith, append-nil}
+use Rattle.std.proofs.Common.{◌≡◌, ◌⊎◌, inl, inr, ⊎_elim, ℕ, ◌≤◌, Bool, true, false, [], length, refl, sym, ap, ap₂, ◌∙◌, subst, Option, Some, None, arith, append-nil}
 use Rattle.std.proofs.lemmas.Bool.{true≢false, eqb-true, eq-eqb}
-use Rattle.std.proofs.lemmas.Option.{none-some}
 use Rattle.std.specs.Prelude.{is_some, ◌==◌, ◌&&◌, if◌then◌else◌}
 use Rattle.id_table.specs.Ids.{at}
 use Rattle.id_table.specs.Order.{same_or_not}
 use Rattle.end_names.specs.Names.{address_of, node_of}
 use Rattle.end_model.specs.declared.event.Event.{Event}
 use Rattle.end_model.specs.declared.moves.Declined.{Declined}
-use Rattle.end_model.specs.declared.moves.Restored.{Restored}
-use Rattle.end_model.specs.declared.moves.Froze.{Froze}
 use Rattle.end_model.specs.declared.moves.Move.TheVariants as move
-use Rattle.end_model.specs.Tunnels.{Tunnel, Recovering, mode_of, is_current}
+use Rattle.end_model.specs.Tunnels.{Tunnel, mode_of, is_current}
 use Rattle.end_model.specs.End.{End}
 use Rattle.world_model.specs.declared.standing.Standing.{Standing}
-use Rattle.world_model.specs.World.{World, Node, Sender, Deed, standing_of, epoch_of, moved}
-use Rattle.channel_laws.specs.Accounts.{Part, Unmade, Opener, Acceptor, Renewed, Taken, Account, no_account, History, about, declines_of, declined_by, declined_in, entered_by, after_deed, attempts_by, answers_by, after}
-use Rattle.channel_laws.specs.Facts.{IsMade, partner_in, IsTaken, AreTaken, IsOpener, IsPart, IsAnswered, IsInState, AreAcked, KnowsBy, ByLetter, ByRecord, AccountOk, ChannelOk, LiveOk, IdsOk, EndOk, BookOk, NodeOk, Holds}
+use Rattle.world_model.specs.World.{World, Node, Sender, Deed, epoch_of, moved}
+use Rattle.channel_laws.specs.Accounts.{Part, Unmade, Opener, Acceptor, Renewed, Account, no_account, History, about, declines_of, declined_by, declined_in, entered_by, attempts_by, answers_by, after}
+use Rattle.channel_laws.specs.Facts.{IsMade, partner_in, AreTaken, IsOpener, IsPart, IsAnswered, IsInState, AreAcked, KnowsBy, ByLetter, ByRecord, AccountOk, ChannelOk, LiveOk, IdsOk, EndOk, BookOk, NodeOk, Holds}
 use Rattle.channel_laws.specs.Steps.{with_end, moves_on, IsMoved}
 use Rattle.channel_laws.proofs.Entering.{base_here, base_other, base_same, base_makes}
 use Rattle.channel_laws.proofs.Making.{SameNode, same_node}

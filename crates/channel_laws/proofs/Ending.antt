@@ -1,8 +1,8 @@
 -- A step of a node, all of which was committed: what its moves lead to, and what it sends.
-use Rattle.std.proofs.Common.{◌≡◌, ◌⊎◌, inl, inr, ⊎_elim, ℕ, ◌+◌, ◌*◌, ◌^◌, ◌<◌, ◌≤◌, Bool, true, false, List, [], ◌∷◌, ◌++◌, length, map, refl, sym, ap, ◌∙◌, subst, Option, Some, None, arith, append-nil, append_assoc}
+use Rattle.std.proofs.Common.{◌≡◌, inl, inr, ⊎_elim, ℕ, ◌+◌, ◌^◌, ◌<◌, ◌≤◌, Bool, true, false, List, [], ◌∷◌, ◌++◌, map, refl, sym, ap, ◌∙◌, subst, Option, Some, None, arith, append-nil, append_assoc}
 use Rattle.std.proofs.lemmas.Bool.{true≢false, eqb-true}
-use Rattle.std.specs.Prelude.{is_some, unwrap_or, ◌==◌, if◌then◌else◌}
-use Rattle.std.specs.List.{AllByRecursion, flat_map}
+use Rattle.std.specs.Prelude.{is_some, if◌then◌else◌}
+use Rattle.std.specs.List.{AllByRecursion}
 use Rattle.id_table.specs.Ids.{at}
 use Rattle.id_table.specs.Order.{Ascends, at_new, at_other, same_or_not}
 use Rattle.recv_window.specs.Window.{ClassIsTrue}
@@ -24,7 +24,7 @@ use Rattle.end_model.specs.Tunnels.{Tunnel, mode_of, is_current}
 use Rattle.end_model.specs.End.{End, Stepped, plain_step}
 use Rattle.world_model.specs.declared.packet.Packet.{Packet}
 use Rattle.world_model.specs.declared.standing.Standing.{Standing}
-use Rattle.world_model.specs.World.{World, Node, Checkpoint, Sender, Deed, IsWhole, no_standing, standing_of, answer_in, epoch_of, with_node, block_of, commits, deed_of, moved_all, epoch_sent, packet_from, sent, shown, shown_all}
+use Rattle.world_model.specs.World.{World, Node, Checkpoint, Sender, Deed, IsWhole, standing_of, answer_in, epoch_of, with_node, block_of, commits, deed_of, moved_all, epoch_sent, packet_from, sent, shown, shown_all}
 use Rattle.step_laws.specs.Letters.{Among, Carries}
 use Rattle.step_laws.specs.Moves.{Does, Chain}
 use Rattle.step_laws.specs.Steps.{AreKept, IsOfNoStart, IsChain, IsDecline, IsOfMoves, StepsAreChains, StepsAreNoStarts}
@@ -35,14 +35,14 @@ use Rattle.frame_laws.proofs.Deeds.{all_behind}
 use Rattle.book_laws.specs.Books.{booked_control, tunnel_record, IsBook, Fits, StepIsBooked, StepsAreBooked}
 use Rattle.node_laws.specs.Nodes.{HoldsUp}
 use Rattle.channel_laws.specs.Accounts.{Part, Unmade, Opener, Acceptor, Renewed, History, after, history_from}
-use Rattle.channel_laws.specs.Facts.{IsMade, makes, EndOk, BookOk, NodeOk, PacketOk, Holds}
+use Rattle.channel_laws.specs.Facts.{IsMade, EndOk, BookOk, NodeOk, PacketOk, Holds}
 use Rattle.channel_laws.specs.Lines.{AreSame, Finds, ComesIn}
 use Rattle.channel_laws.specs.Recoveries.{WrittenIsRead, WrittenHasRoom}
 use Rattle.channel_laws.specs.Steps.{Comes, Keeps}
 use Rattle.channel_laws.specs.Whole.{IsAlong}
 use Rattle.channel_laws.proofs.Agreeing.{Agree, agree_on, put_agrees, chain_epoch}
 use Rattle.channel_laws.proofs.Arriving.{comes_first}
-use Rattle.channel_laws.proofs.Budgets.{ActiveBelow, Below, active_first}
+use Rattle.channel_laws.proofs.Budgets.{Below, active_first}
 use Rattle.channel_laws.proofs.Committing.{whole_book}
 use Rattle.channel_laws.proofs.Inactive.{IsInactive}
 use Rattle.channel_laws.proofs.Looks.{SameLook, CountAlike, same_look, look_back, look_on, all_look, looks_so, count_alike, end_agrees, node_agrees, packets_agree, holds_agrees}

@@ -1,15 +1,14 @@
 -- What is known goes on to hold where more is known of one channel: more was given and taken in it, its tunnel was made, has learned an id or was closed, or
 -- its SCCRQ was declined.
-use Rattle.std.proofs.Common.{◌≡◌, ◌⊎◌, inl, inr, ⊎_elim, ℕ, zero, suc, ◌+◌, ◌<◌, ◌≤◌, true, false, List, [], ◌∷◌, ◌++◌, length, refl, sym, ap, ap₂, ◌∙◌, subst, Option, Some, None, arith, append-nil}
+use Rattle.std.proofs.Common.{◌≡◌, ◌⊎◌, inl, inr, ⊎_elim, ℕ, zero, suc, ◌+◌, ◌<◌, ◌≤◌, true, false, List, [], ◌∷◌, ◌++◌, length, refl, sym, ap, ◌∙◌, Some, arith, append-nil}
 use Rattle.std.proofs.lemmas.List.{length-append}
 use Rattle.std.proofs.lemmas.Option.{none-some}
 use Rattle.std.specs.Prelude.{slice_get}
-use Rattle.world_model.specs.World.{World, Sender, epoch_of}
 use Rattle.step_laws.specs.Letters.{Letter}
 use Rattle.end_model.specs.declared.out.ControlOrigin.{ControlOrigin}
 use Rattle.world_model.specs.declared.packet.Packet.{Packet}
-use Rattle.channel_laws.specs.Accounts.{Part, Unmade, Opener, Acceptor, Renewed, Taken, Account, no_account, partner_of, History}
-use Rattle.channel_laws.specs.Facts.{Accounts, IsMade, IsOpen, IsLost, Says, ALetter, Nothing, IsCopy}
+use Rattle.channel_laws.specs.Accounts.{Unmade, Opener, Taken, Account, History}
+use Rattle.channel_laws.specs.Facts.{IsMade, IsOpen, IsLost, Says, ALetter, Nothing, IsCopy}
 use Rattle.channel_laws.proofs.Anew.{here_or_not}
 
 pub record Extends (a b : Account) : Type 0 where

@@ -1,13 +1,11 @@
 -- The moves of a live tunnel that is in epoch 0, each by what connection_laws says of it.
-use Rattle.std.proofs.Common.{◌≡◌, ◌⊎◌, inl, inr, ⊎_elim, ℕ, ◌+◌, ◌<◌, ◌≤◌, Bool, true, false, cond, List, [], ◌∷◌, ◌++◌, length, drop, map, refl, sym, ap, ap₂, ◌∙◌, subst, Option, Some, None, arith}
-use Rattle.std.proofs.lemmas.Option.{none-some}
-use Rattle.std.specs.Prelude.{◌==◌, ◌^◌, ◌-◌, min, unwrap_or}
-use Rattle.id_table.specs.Ids.{at, put, without, ids_of}
+use Rattle.std.proofs.Common.{◌≡◌, inl, inr, ⊎_elim, ℕ, ◌+◌, true, false, List, [], length, drop, refl, sym, ap, ◌∙◌, subst, Option, Some, arith}
+use Rattle.std.specs.Prelude.{◌^◌, ◌-◌, min}
+use Rattle.id_table.specs.Ids.{at, put, without}
 use Rattle.id_table.specs.Order.{at_new}
 use Rattle.id_source.specs.Spaces.{after_id}
-use Rattle.control_message.specs.declared.message.Message.TheVariants.{Scccn, Icrp, Cdn, StopCcn}
+use Rattle.control_message.specs.declared.message.Message.TheVariants.{Icrp, Cdn, StopCcn}
 use Rattle.control_channel.specs.Numbers.{count_acked}
-use Rattle.tunnel_fsm.specs.Rows.{state_number}
 use Rattle.tunnel_fsm.specs.declared.table.TunnelEvent.{TunnelEvent}
 use Rattle.tunnel_fsm.specs.declared.table.TunnelState.TheVariants.{Established}
 use Rattle.end_names.specs.Names.{node_of}
@@ -17,7 +15,6 @@ use Rattle.call_link.specs.Link.{new_link}
 use Rattle.session_looks.specs.declared.look.CellChange.TheVariants as cell
 use Rattle.end_model.specs.declared.event.Event.{Event}
 use Rattle.end_model.specs.declared.moves.Confirmed.{Confirmed}
-use Rattle.end_model.specs.declared.moves.Connected.{Connected}
 use Rattle.end_model.specs.declared.moves.Added.{Added}
 use Rattle.end_model.specs.declared.moves.Replied.{Replied}
 use Rattle.end_model.specs.declared.moves.Refused.{Refused}
@@ -32,30 +29,25 @@ use Rattle.end_model.specs.declared.moves.Restored.{Restored}
 use Rattle.end_model.specs.declared.moves.Froze.{Froze}
 use Rattle.end_model.specs.declared.moves.Move.{Move}
 use Rattle.end_model.specs.declared.moves.Move.TheVariants as move
-use Rattle.end_model.specs.declared.tunnel.Call.{Call}
-use Rattle.end_model.specs.declared.tunnel.CallPlace.{CallPlace}
-use Rattle.end_model.specs.declared.tunnel.Control.{Control}
 use Rattle.end_model.specs.Calls.{advanced, with_numbers, rung, asked_for}
 use Rattle.end_model.specs.Channels.{counts_taken, counts_acked}
 use Rattle.end_model.specs.Messages.{connection}
 use Rattle.end_model.specs.Openings.{in_state}
 use Rattle.end_model.specs.Links.{with_link}
 use Rattle.end_model.specs.Tunnels.{Tunnel, mode_of, is_current}
-use Rattle.end_model.specs.End.{End, new_place, with_look, with_looks}
+use Rattle.end_model.specs.End.{End, new_place, with_look}
 use Rattle.world_model.specs.World.{World, Node, Sender, Deed, epoch_of, birth_of, is_born, moved}
-use Rattle.step_laws.specs.Arrivals.{Came, ComesTo}
 use Rattle.step_laws.specs.Moves.{with_tunnel, with_letter, without_call, without_calls, ByOperator, ByLetter, WhyCloses}
 use Rattle.frame_laws.specs.Codecs.{Codecs}
 use Rattle.connection_laws.specs.Facts as calm_facts
 use Rattle.connection_laws.specs.Steps as calm_steps
 use Rattle.connection_laws.proofs.States.{not_closed, closes_open}
-use Rattle.channel_laws.specs.Accounts.{Part, Unmade, Opener, Acceptor, Renewed, Account, History, declines_of, attempts_by, answers_by, after}
-use Rattle.channel_laws.specs.Facts.{IsMade, IsOpen, ChannelOk, LiveOk, EndOk, Holds}
+use Rattle.channel_laws.specs.Accounts.{Opener, Acceptor, Renewed, History, declines_of, attempts_by, answers_by, after}
+use Rattle.channel_laws.specs.Facts.{IsMade, Holds}
 use Rattle.channel_laws.specs.Recoveries.{WrittenIsRead, WrittenHasRoom}
 use Rattle.channel_laws.specs.Steps.{with_end, moves_on, IsMoved}
 use Rattle.channel_laws.proofs.Linked.{part_cases, opener_of, acceptor_of, renewed_of}
-use Rattle.channel_laws.proofs.Ends.{Puts}
-use Rattle.channel_laws.proofs.Extending.{Extends, extends_same}
+use Rattle.channel_laws.proofs.Extending.{extends_same}
 use Rattle.channel_laws.proofs.Giving.{IsPlainDeed, with_places}
 use Rattle.channel_laws.proofs.Open.{end_alike}
 use Rattle.channel_laws.proofs.Births.{birth_alike}

@@ -1,5 +1,5 @@
 -- A move of a live tunnel that is in epoch 0 keeps what holds, since it does in the words of connection_laws.
-use Rattle.std.proofs.Common.{◌≡◌, ◌⊎◌, inl, inr, ⊎_elim, ℕ, ◌+◌, ◌<◌, ◌≤◌, Bool, true, false, List, [], ◌∷◌, length, refl, sym, ap, ap₂, ◌∙◌, subst, Option, Some, None, arith}
+use Rattle.std.proofs.Common.{◌≡◌, ◌⊎◌, inl, inr, ⊎_elim, ℕ, ◌+◌, ◌<◌, ◌≤◌, Bool, true, false, List, [], length, refl, sym, ap, ap₂, ◌∙◌, subst, Option, Some, arith}
 use Rattle.std.proofs.lemmas.Bool.{true≢false, eq-eqb}
 use Rattle.std.proofs.lemmas.Option.{none-some}
 use Rattle.std.specs.Prelude.{is_some, slice_get, ◌^◌, ◌==◌, ◌&&◌, if◌then◌else◌}
@@ -8,24 +8,20 @@ use Rattle.avp_codec.specs.Spelling.{spelling}
 use Rattle.control_message.specs.declared.message.Message.TheVariants.{StopCcn}
 use Rattle.control_message.specs.Pairs.{pairs_of}
 use Rattle.id_table.specs.Ids.{at, put, at-none}
-use Rattle.id_table.specs.Order.{Ascends, ascends-put, found_put, at_new, same_or_not}
+use Rattle.id_table.specs.Order.{Ascends, ascends-put, found_put, same_or_not}
 use Rattle.id_source.specs.Spaces.{Space}
-use Rattle.l2tp_header.specs.declared.header.Header.{Header}
-use Rattle.l2tp_header.specs.Reading.{header_of, body_of}
+use Rattle.l2tp_header.specs.Reading.{body_of}
 use Rattle.tunnel_fsm.specs.Rows.{state_number}
 use Rattle.end_names.specs.Names.{address_of}
 use Rattle.end_model.specs.declared.event.Event.{Event}
-use Rattle.end_model.specs.declared.event.Event.TheVariants.{Datagram}
-use Rattle.end_model.specs.declared.moves.Restored.{Restored}
 use Rattle.end_model.specs.declared.moves.Move.{Move}
-use Rattle.end_model.specs.declared.out.Origin.{Origin}
 use Rattle.end_model.specs.declared.out.Origin.TheVariants as origin
 use Rattle.end_model.specs.declared.out.ControlOrigin.{ControlOrigin}
 use Rattle.end_model.specs.Tunnels.{Tunnel, mode_of, is_current}
 use Rattle.end_model.specs.End.{End}
 use Rattle.world_model.specs.declared.packet.Packet.{Packet}
 use Rattle.world_model.specs.declared.standing.Standing.{Standing}
-use Rattle.world_model.specs.World.{World, Node, Sender, Deed, standing_of, epoch_of, sender_of}
+use Rattle.world_model.specs.World.{World, Node, Sender, Deed, epoch_of, sender_of}
 use Rattle.step_laws.specs.Arrivals.{Came, ComesTo, IsFor}
 use Rattle.step_laws.specs.Moves.{Does}
 use Rattle.frame_laws.specs.Codecs.{Codecs}
@@ -35,19 +31,19 @@ use Rattle.connection_laws.proofs.Hearing.{same_address}
 use Rattle.connection_laws.specs.Accounts as calm
 use Rattle.connection_laws.specs.Facts as calm_facts
 use Rattle.connection_laws.specs.Steps as calm_steps
-use Rattle.channel_laws.specs.Accounts.{Part, Unmade, Opener, Acceptor, Renewed, Account, no_account, History, about, declines_of, declined_in, entered_by, after_deed, after}
-use Rattle.channel_laws.specs.Facts.{IsMade, partner_in, IsOpen, IsClosed, IsShut, AreJoined, IsOpener, IsAcceptor, IsPart, AccountOk, IsInState, ChannelOk, LiveOk, IdsOk, EndOk, BookOk, NodeOk, Says, ALetter, Nothing, IsCopy, IsRefusal, Holds}
+use Rattle.channel_laws.specs.Accounts.{Part, Unmade, Opener, Acceptor, Renewed, Account, History, about, declined_in, entered_by, after}
+use Rattle.channel_laws.specs.Facts.{IsMade, partner_in, IsOpen, IsClosed, IsShut, AreJoined, IsAcceptor, IsPart, AccountOk, IsInState, ChannelOk, LiveOk, IdsOk, EndOk, BookOk, NodeOk, Says, ALetter, Nothing, IsCopy, Holds}
 use Rattle.channel_laws.specs.Recoveries.{WrittenIsRead, WrittenHasRoom}
 use Rattle.channel_laws.specs.Steps.{AreNear, moves_on, IsMoved}
-use Rattle.channel_laws.proofs.Linked.{opener_of, acceptor_of, renewed_of}
+use Rattle.channel_laws.proofs.Linked.{acceptor_of, renewed_of}
 use Rattle.channel_laws.proofs.Ends.{Puts, IsAlone, put_end_apart}
 use Rattle.channel_laws.proofs.Extending.{Extends, IsOnly, made_on, part_on}
 use Rattle.channel_laws.proofs.Later.{IsAlike, IsUnbooked, StaysJoined, recovered_later, live_later, holds_later}
 use Rattle.channel_laws.proofs.Giving.{IsPlainDeed, becomes_so, only_so}
-use Rattle.channel_laws.proofs.Coming.{FromTunnel, OfNoTunnel, OfRecovery, heard}
+use Rattle.channel_laws.proofs.Coming.{FromTunnel, OfNoTunnel, heard}
 use Rattle.channel_laws.proofs.Naming.{learned_made}
 use Rattle.channel_laws.proofs.Main.{not_recovery, named_by_stop}
-use Rattle.channel_laws.proofs.Calm.{calm_part, calm_account, calm_of, opener_from, joined_from, made_to, account_to, account_from, bare, live_to, live_from}
+use Rattle.channel_laws.proofs.Calm.{calm_part, calm_account, calm_of, opener_from, account_to, account_from, bare, live_to, live_from}
 
 -- the end that has one tunnel alone, without a recovery tunnel
 abbrev pub alone_in : End → ℕ → Tunnel → End

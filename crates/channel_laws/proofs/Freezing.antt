@@ -13,7 +13,6 @@ use Rattle.control_message.specs.declared.message.Opening.{Opening}
 use Rattle.control_message.specs.declared.message.Recovery.{Recovery}
 use Rattle.control_message.specs.declared.message.Suggested.{Suggested}
 use Rattle.recovery_tunnel.specs.Connections.{ControlConnection, is_waiting}
-use Rattle.session_book.specs.declared.record.BookTunnel.{BookTunnel}
 use Rattle.end_names.specs.Names.{address_of, node_of}
 use Rattle.end_model.specs.declared.event.Event.{Event}
 use Rattle.end_model.specs.declared.moves.Restored.{Restored}
@@ -33,7 +32,7 @@ use Rattle.frame_laws.specs.Plain.{IsReadAs, AsAMessage, AsAFault, message_there
 use Rattle.book_laws.proofs.Finished.{finished_found}
 use Rattle.connection_laws.proofs.Hearing.{no_message, same_address}
 use Rattle.channel_laws.specs.Accounts.{Acceptor, Account, History, about, declined_in, declines_of, entered_by, after_deed, attempts_by, answers_by, after}
-use Rattle.channel_laws.specs.Facts.{IsMade, partner_in, makes, AreLinked, BookedOk, AnswerOk, AttemptOk, IsRecovered, LiveOk, IdsOk, EndOk, BookOk, NodeOk, StandingOk, SaysRecovery, AsksFor, Suggests, Confirms, Refuses, PacketOk, Holds}
+use Rattle.channel_laws.specs.Facts.{IsMade, partner_in, makes, AreLinked, AnswerOk, AttemptOk, IsRecovered, LiveOk, IdsOk, EndOk, BookOk, NodeOk, StandingOk, SaysRecovery, AsksFor, Suggests, Confirms, Refuses, PacketOk, Holds}
 use Rattle.channel_laws.specs.Recoveries.{WrittenIsRead, WrittenHasRoom}
 use Rattle.channel_laws.specs.Steps.{with_end, moves_on, IsMoved}
 use Rattle.channel_laws.proofs.Growing.{Grows, account_grows, answers_grow, packets_grow}

@@ -1,5 +1,5 @@
 -- The moves by which an open tunnel is given a letter, and takes none.
-use Rattle.std.proofs.Common.{◌≡◌, ◌⊎◌, inl, inr, ⊎_elim, ℕ, ◌+◌, ◌<◌, ◌≤◌, true, false, List, [], ◌∷◌, length, refl, sym, ap, ◌∙◌, subst, Option, Some, None, arith}
+use Rattle.std.proofs.Common.{◌≡◌, inl, ⊎_elim, ℕ, ◌<◌, true, false, List, [], ◌∷◌, refl, sym, ap, ◌∙◌, subst, Option, Some, None, arith}
 use Rattle.std.proofs.lemmas.Bool.{true≢false, ltb-true}
 use Rattle.id_table.specs.Ids.{at, put, without}
 use Rattle.id_table.specs.Order.{found_put, found_without}
@@ -24,7 +24,7 @@ use Rattle.end_model.specs.Channels.{has_room}
 use Rattle.end_model.specs.Messages.{request_of}
 use Rattle.end_model.specs.Tunnels.{Tunnel, mode_of, is_current}
 use Rattle.end_model.specs.End.{End}
-use Rattle.world_model.specs.World.{World, Node, Sender, Deed, config_of, epoch_of, standing_of, moved}
+use Rattle.world_model.specs.World.{World, Node, Sender, Deed, config_of, epoch_of, moved}
 use Rattle.step_laws.specs.Codes.{codes_fit}
 use Rattle.step_laws.specs.Letters.{Letter, letters_of}
 use Rattle.step_laws.specs.Moves.{with_tunnel, with_letter_as}
@@ -39,7 +39,7 @@ use Rattle.channel_laws.specs.Steps.{with_end, moves_on, IsMoved}
 use Rattle.channel_laws.proofs.Deeds.{here, others}
 use Rattle.channel_laws.proofs.Entering.{base_same}
 use Rattle.channel_laws.proofs.Extending.{Extends, IsOnly}
-use Rattle.channel_laws.proofs.Going.{IsPaired, GoesOn, grows_by, goes_hold}
+use Rattle.channel_laws.proofs.Going.{grows_by, goes_hold}
 use Rattle.channel_laws.proofs.Open.{open_state, grows_extends, gives_only, taken_still, end_alike}
 
 -- ---- the deed of a move that enters one account

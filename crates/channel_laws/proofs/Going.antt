@@ -1,28 +1,26 @@
 -- An open tunnel goes on in its epoch: it may be given letters and take letters of its other end, and its calls may change.
-use Rattle.std.proofs.Common.{◌≡◌, ◌⊎◌, inl, inr, ⊎_elim, ℕ, ◌+◌, ◌<◌, ◌≤◌, true, false, List, [], ◌∷◌, ◌++◌, length, map, drop, refl, sym, ap, ap₂, ◌∙◌, subst, Option, Some, None, arith}
+use Rattle.std.proofs.Common.{◌≡◌, ◌⊎◌, inl, inr, ⊎_elim, ℕ, ◌+◌, ◌<◌, ◌≤◌, true, List, ◌++◌, length, map, refl, sym, ap, ap₂, ◌∙◌, subst, Some, arith}
 use Rattle.std.proofs.lemmas.Bool.{true≢false}
 use Rattle.std.proofs.lemmas.List.{length-append, drop-append-le, map-append}
 use Rattle.std.proofs.lemmas.Option.{none-some, slice_get_within}
-use Rattle.std.specs.Prelude.{slice_get, unwrap_or, ◌==◌, is_some}
+use Rattle.std.specs.Prelude.{unwrap_or, is_some}
 use Rattle.std.specs.List.{AllByRecursion}
 use Rattle.id_table.specs.Ids.{at}
 use Rattle.id_table.specs.Order.{same_or_not}
 use Rattle.id_source.specs.Spaces.{Space}
-use Rattle.control_message.specs.declared.message.Message.{Message}
 use Rattle.control_message.specs.declared.message.Message.TheVariants.{Sccrq, Sccrp}
-use Rattle.control_message.specs.declared.message.Opening.{Opening}
 use Rattle.tunnel_fsm.specs.Rows.{state_number}
 use Rattle.end_names.specs.Names.{address_of}
 use Rattle.end_model.specs.declared.tunnel.Call.{Call}
 use Rattle.end_model.specs.Tunnels.{Tunnel, mode_of, is_current}
 use Rattle.end_model.specs.End.{End}
 use Rattle.world_model.specs.declared.standing.Standing.{Standing}
-use Rattle.world_model.specs.World.{World, Node, standing_of, epoch_of}
+use Rattle.world_model.specs.World.{World, Node, epoch_of}
 use Rattle.step_laws.specs.Letters.{Letter}
-use Rattle.connection_laws.specs.Facts.{IsNoOpening, IsSpelled, TellsOwn, BeginsWith, kept_letter}
+use Rattle.connection_laws.specs.Facts.{IsNoOpening, IsSpelled, TellsOwn, kept_letter}
 use Rattle.connection_laws.proofs.Taking.{all_append, begins_on}
 use Rattle.channel_laws.specs.Accounts.{Part, Unmade, Opener, Acceptor, Renewed, Taken, Account, heeded, History}
-use Rattle.channel_laws.specs.Facts.{Accounts, IsMade, partner_in, makes, AreTaken, IsOpen, IsClosed, AreIgnored, AreJoined, AreEven, IsOpener, IsAcceptor, BeginsBy, AsGiver, AsPeer, IsRenewed, IsPart, AccountOk, IsInState, AreAcked, ChannelOk, IsRecovered, LiveOk, IdsOk, EndOk, BookOk, NodeOk, Holds}
+use Rattle.channel_laws.specs.Facts.{Accounts, IsMade, partner_in, AreTaken, IsOpen, IsClosed, AreJoined, AreEven, IsOpener, IsAcceptor, BeginsBy, AsGiver, AsPeer, IsRenewed, IsPart, AccountOk, IsInState, AreAcked, ChannelOk, LiveOk, IdsOk, EndOk, BookOk, NodeOk, Holds}
 use Rattle.channel_laws.proofs.Linked.{opener_of, acceptor_of, renewed_of, not_itself}
 use Rattle.channel_laws.proofs.Ends.{Puts, put_end_ok}
 use Rattle.channel_laws.proofs.Extending.{IsOnly}

@@ -1,11 +1,10 @@
 -- A tunnel goes on in a later epoch: it may be given letters, take letters, have some acknowledged, and be closed.
-use Rattle.std.proofs.Common.{◌≡◌, ◌⊎◌, inl, inr, ⊎_elim, ℕ, ◌+◌, ◌<◌, ◌≤◌, true, false, List, [], ◌∷◌, ◌++◌, length, map, drop, refl, sym, ap, ap₂, ◌∙◌, subst, Option, Some, None, arith}
+use Rattle.std.proofs.Common.{◌≡◌, ◌⊎◌, inl, inr, ⊎_elim, ℕ, ◌+◌, ◌<◌, ◌≤◌, true, List, ◌++◌, length, map, drop, sym, ap, ◌∙◌, subst, Option, Some, arith}
 use Rattle.std.proofs.lemmas.Bool.{true≢false}
 use Rattle.std.proofs.lemmas.List.{length-append}
 use Rattle.std.specs.Prelude.{is_some}
 use Rattle.std.specs.List.{AllByRecursion}
 use Rattle.id_table.specs.Ids.{at}
-use Rattle.id_table.specs.Order.{same_or_not}
 use Rattle.id_source.specs.Spaces.{Space}
 use Rattle.tunnel_fsm.specs.Rows.{state_number}
 use Rattle.end_names.specs.Names.{address_of}
@@ -13,12 +12,12 @@ use Rattle.end_model.specs.declared.tunnel.Call.{Call}
 use Rattle.end_model.specs.Tunnels.{Tunnel, mode_of, is_current}
 use Rattle.end_model.specs.End.{End}
 use Rattle.world_model.specs.declared.standing.Standing.{Standing}
-use Rattle.world_model.specs.World.{World, Node, standing_of, epoch_of}
+use Rattle.world_model.specs.World.{World, Node, epoch_of}
 use Rattle.step_laws.specs.Letters.{Letter}
 use Rattle.connection_laws.specs.Facts.{IsNoOpening, IsSpelled, TellsOwn, kept_letter}
 use Rattle.connection_laws.proofs.Taking.{all_append}
-use Rattle.channel_laws.specs.Accounts.{Part, Unmade, Opener, Acceptor, Renewed, Taken, Account, History}
-use Rattle.channel_laws.specs.Facts.{Accounts, IsMade, partner_in, AreTaken, IsOpen, IsShut, AreIgnored, AreEven, BeginsBy, AsGiver, AsPeer, IsRenewed, IsPart, AccountOk, IsInState, AreAcked, ChannelOk, LiveOk, IdsOk, EndOk, BookOk, NodeOk, Holds}
+use Rattle.channel_laws.specs.Accounts.{Acceptor, Renewed, Taken, Account, History}
+use Rattle.channel_laws.specs.Facts.{IsMade, partner_in, AreTaken, IsOpen, IsShut, AreIgnored, AreEven, BeginsBy, AsGiver, AsPeer, IsRenewed, IsPart, AccountOk, IsInState, AreAcked, ChannelOk, LiveOk, IdsOk, EndOk, BookOk, NodeOk, Holds}
 use Rattle.channel_laws.proofs.Linked.{renewed_of, not_itself}
 use Rattle.channel_laws.proofs.Ends.{Puts, put_end_ok}
 use Rattle.channel_laws.proofs.Extending.{IsOnly}

@@ -1,5 +1,5 @@
 -- What a tunnel hears in a later epoch: it is of its other end, in the same epoch, and the letter that comes next is the next one of its list.
-use Rattle.std.proofs.Common.{◌≡◌, ◌⊎◌, inl, inr, ⊎_elim, ℕ, ◌+◌, ◌<◌, ◌≤◌, true, false, List, [], length, refl, sym, ap, ap₂, ◌∙◌, subst, Option, Some, None, arith}
+use Rattle.std.proofs.Common.{◌≡◌, ◌⊎◌, ⊎_elim, ℕ, ◌+◌, ◌<◌, ◌≤◌, true, List, length, sym, ap, ap₂, ◌∙◌, subst, Option, Some, arith}
 use Rattle.std.proofs.lemmas.Option.{slice_get_within}
 use Rattle.std.specs.Prelude.{slice_get, unwrap_or}
 use Rattle.id_table.specs.Ids.{at}
@@ -10,7 +10,6 @@ use Rattle.end_names.specs.Names.{address_of}
 use Rattle.end_model.specs.declared.event.Event.{Event}
 use Rattle.end_model.specs.declared.out.ControlOrigin.{ControlOrigin}
 use Rattle.end_model.specs.Tunnels.{Tunnel, mode_of, is_current}
-use Rattle.end_model.specs.End.{End}
 use Rattle.world_model.specs.World.{World, Node, Sender, epoch_of}
 use Rattle.step_laws.specs.Letters.{Letter}
 use Rattle.step_laws.specs.Arrivals.{Came, ComesTo, IsFor, IsNext, IsAgain, IsStop}
@@ -19,14 +18,14 @@ use Rattle.frame_laws.specs.Plain.{IsReadAs}
 use Rattle.connection_laws.specs.Facts.{IsSpelled}
 use Rattle.connection_laws.proofs.Hearing.{same_address}
 use Rattle.connection_laws.proofs.Numbers.{next_is_expected}
-use Rattle.channel_laws.specs.Accounts.{Part, Unmade, Opener, Acceptor, Renewed, Account, History}
-use Rattle.channel_laws.specs.Facts.{IsMade, partner_in, AreLinked, IsRenewed, AccountOk, ChannelOk, LiveOk, EndOk, BookOk, NodeOk, IsCopy, Holds}
+use Rattle.channel_laws.specs.Accounts.{Unmade, Renewed, Account, History}
+use Rattle.channel_laws.specs.Facts.{IsMade, partner_in, AreLinked, IsRenewed, ChannelOk, LiveOk, EndOk, BookOk, NodeOk, IsCopy, Holds}
 use Rattle.channel_laws.specs.Recoveries.{WrittenIsRead, WrittenHasRoom}
 use Rattle.channel_laws.specs.Steps.{IsNear, Comes}
 use Rattle.channel_laws.proofs.Linked.{opener_of, renewed_of, first_or_later, renewed_alike, linked_back, BeginAlike}
 use Rattle.channel_laws.proofs.Naming.{learned_made}
-use Rattle.channel_laws.proofs.Coming.{FromTunnel, OfNoTunnel, OfRecovery, heard}
-use Rattle.channel_laws.proofs.Main.{not_recovery, named_by_stop}
+use Rattle.channel_laws.proofs.Coming.{FromTunnel, OfNoTunnel, heard}
+use Rattle.channel_laws.proofs.Main.{not_recovery}
 use Rattle.channel_laws.proofs.Readings.{IsLetterRead, IsNoneRead}
 
 -- a control message of the other end, in the tunnel's own epoch

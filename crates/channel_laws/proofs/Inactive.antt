@@ -1,13 +1,11 @@
 -- Which tunnels are frozen or restored as a step goes on: one is restored by no step, and one that a step freezes isn't reset by that step. So no move
 -- behind one that gives or takes a letter, or that resets a tunnel, makes it enter an epoch.
-use Rattle.std.proofs.Common.{◌≡◌, ◌⊎◌, inl, inr, ⊎_elim, ℕ, ◌<◌, Bool, true, false, List, [], ◌∷◌, refl, sym, ap, ap₂, ◌∙◌, subst, Option, Some, None, Ok, arith}
+use Rattle.std.proofs.Common.{◌≡◌, ◌⊎◌, inl, inr, ⊎_elim, ℕ, Bool, true, false, refl, sym, ap, ap₂, ◌∙◌, subst, Some, Ok}
 use Rattle.std.proofs.lemmas.Bool.{true≢false}
-use Rattle.std.proofs.lemmas.Option.{none-some}
-use Rattle.std.specs.List.{AllByRecursion}
 use Rattle.id_table.specs.Ids.{at, put}
 use Rattle.id_table.specs.Order.{Ascends, at_new, at_other, same_or_not, found_without}
 use Rattle.l2tp_header.specs.Reading.{header_of, body_of}
-use Rattle.control_message.specs.declared.message.Message.TheVariants.{Sccrq, Sccrp, Scccn}
+use Rattle.control_message.specs.declared.message.Message.TheVariants.{Sccrq}
 use Rattle.control_message.specs.declared.message.Opening.{Opening}
 use Rattle.control_channel.specs.Channel.{Channel}
 use Rattle.end_model.specs.declared.event.Event.{Event}
@@ -19,7 +17,7 @@ use Rattle.end_model.specs.Reading.{message_in}
 use Rattle.end_model.specs.Tunnels.{Tunnel, Recovering, ByAttempt, ByAnswer, connection_of, with_connection, mode_of, is_current}
 use Rattle.end_model.specs.End.{End}
 use Rattle.step_laws.specs.Arrivals.{Came, CameIn}
-use Rattle.step_laws.specs.Moves.{Does, Chain}
+use Rattle.step_laws.specs.Moves.{Does}
 use Rattle.step_laws.specs.Steps.{IsOfNoStart}
 use Rattle.channel_laws.specs.Accounts.{about}
 use Rattle.channel_laws.specs.Steps.{IsStill}

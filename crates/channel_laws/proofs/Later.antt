@@ -1,6 +1,6 @@
 -- All that holds goes on to hold where more is known of one channel.
-use Rattle.std.proofs.Common.{◌≡◌, ◌⊎◌, inl, inr, ⊎_elim, ℕ, ◌+◌, ◌<◌, ◌≤◌, true, false, List, [], ◌∷◌, length, refl, sym, ap, ap₂, ◌∙◌, subst, Option, Some, None, arith}
-use Rattle.std.specs.Prelude.{is_some, slice_get}
+use Rattle.std.proofs.Common.{◌≡◌, ◌⊎◌, inl, inr, ⊎_elim, ℕ, ◌<◌, ◌≤◌, true, List, [], ◌∷◌, length, refl, sym, ap, ap₂, ◌∙◌, subst, Option, Some, None, arith}
+use Rattle.std.specs.Prelude.{is_some}
 use Rattle.std.specs.List.{AllByRecursion}
 use Rattle.id_table.specs.Ids.{at}
 use Rattle.id_table.specs.Order.{same_or_not}
@@ -13,20 +13,18 @@ use Rattle.end_model.specs.declared.moves.Restored.{Restored}
 use Rattle.end_model.specs.declared.moves.Froze.{Froze}
 use Rattle.end_model.specs.declared.out.Origin.{Origin}
 use Rattle.end_model.specs.declared.out.Origin.TheVariants as origin
-use Rattle.end_model.specs.Tunnels.{Tunnel, Recovering, ByAttempt, ByAnswer, mode_of, is_current}
+use Rattle.end_model.specs.Tunnels.{Tunnel, Recovering, ByAttempt, ByAnswer}
 use Rattle.end_model.specs.End.{End}
 use Rattle.world_model.specs.declared.packet.Packet.{Packet}
 use Rattle.world_model.specs.declared.standing.Standing.{Standing}
-use Rattle.world_model.specs.World.{World, Node, Checkpoint, standing_of, epoch_of, no_standing}
-use Rattle.step_laws.specs.Letters.{Letter}
+use Rattle.world_model.specs.World.{World, Node, Checkpoint, standing_of, epoch_of}
 use Rattle.book_laws.proofs.Lists.{entry_has}
-use Rattle.connection_laws.specs.Facts.{AllWait}
-use Rattle.channel_laws.specs.Accounts.{Part, Unmade, Opener, Acceptor, Renewed, Taken, Account, no_account, History}
-use Rattle.channel_laws.specs.Facts.{Accounts, IsMade, partner_in, makes, AreTaken, IsOpen, IsLost, IsShut, AreJoined, AreEven, IsOpener, IsAcceptor, AreLinked, KnowsBy, ByLetter, ByRecord, BookedOk, AnswerOk, AttemptOk, BeginsBy, AsGiver, AsPeer, IsRenewed, IsPart, AccountOk, IsAnswered, IsInState, AreAcked, ChannelOk, IsRecovered, LiveOk, IdsOk, EndOk, BookOk, NodeOk, StandingOk, SaysRecovery, AsksFor, Suggests, Confirms, Refuses, IsRefusal, OriginOk, PacketOk, Holds}
+use Rattle.channel_laws.specs.Accounts.{Part, Unmade, Opener, Acceptor, Renewed, Account, no_account, History}
+use Rattle.channel_laws.specs.Facts.{IsMade, partner_in, makes, AreTaken, IsOpen, IsLost, IsShut, AreJoined, AreEven, IsOpener, IsAcceptor, AreLinked, KnowsBy, ByLetter, ByRecord, BookedOk, AnswerOk, AttemptOk, BeginsBy, AsGiver, AsPeer, IsRenewed, IsPart, AccountOk, IsAnswered, IsInState, AreAcked, ChannelOk, IsRecovered, LiveOk, IdsOk, EndOk, BookOk, NodeOk, StandingOk, SaysRecovery, AsksFor, Suggests, Confirms, Refuses, OriginOk, PacketOk, Holds}
 use Rattle.channel_laws.proofs.Anew.{here_or_not}
 use Rattle.channel_laws.proofs.Linked.{not_itself}
-use Rattle.channel_laws.proofs.Making.{SameNode, same_answer}
-use Rattle.channel_laws.proofs.Extending.{Extends, made_on, part_on, remote_on, lost_on, got_given, more_given, more_taken, copy_on, IsOnly, all_extend}
+use Rattle.channel_laws.proofs.Making.{SameNode}
+use Rattle.channel_laws.proofs.Extending.{Extends, made_on, part_on, remote_on, lost_on, got_given, more_taken, copy_on, IsOnly, all_extend}
 
 -- a world of the same epochs, in which one node may have another end
 pub record IsAlike (w v : World) (n : ℕ) (node : Node) (x : End) : Type 0 where

@@ -1,71 +1,37 @@
 -- The moves of a tunnel that is in a later epoch.
-use Rattle.std.proofs.Common.{◌≡◌, ◌⊎◌, inl, inr, ⊎_elim, ℕ, zero, suc, ◌+◌, ◌<◌, ◌≤◌, Bool, true, false, List, [], ◌∷◌, ◌++◌, length, map, drop, refl, sym, ap, ap₂, ◌∙◌, subst, Option, Some, None, Ok, arith, append-nil, ne_eqb}
-use Rattle.std.proofs.lemmas.Bool.{true≢false, ltb-true, cases_lt}
-use Rattle.std.proofs.lemmas.List.{length-append, drop-append-le, map-append}
-use Rattle.std.proofs.lemmas.Option.{none-some, slice_get_within}
-use Rattle.std.specs.Prelude.{slice_get, unwrap_or, ◌==◌, ◌^◌, ◌-◌, min}
+use Rattle.std.proofs.Common.{◌≡◌, ◌⊎◌, inr, ⊎_elim, ℕ, zero, suc, ◌+◌, ◌<◌, ◌≤◌, true, List, [], ◌∷◌, ◌++◌, length, refl, sym, ap, ◌∙◌, subst, Option, Some, arith, ne_eqb}
+use Rattle.std.proofs.lemmas.Bool.{cases_lt}
+use Rattle.std.proofs.lemmas.Option.{slice_get_within}
+use Rattle.std.specs.Prelude.{slice_get}
 use Rattle.std.specs.List.{AllByRecursion}
-use Rattle.id_table.specs.Ids.{at, put, without}
-use Rattle.id_table.specs.Order.{found_without}
-use Rattle.id_source.specs.Spaces.{after_id, draw_is}
-use Rattle.control_message.specs.declared.message.Message.{Message}
-use Rattle.control_message.specs.declared.message.Message.TheVariants.{StopCcn, Ocrq, Icrq, Icrp, Iccn, Cdn}
-use Rattle.control_channel.specs.Numbers.{count_acked}
-use Rattle.send_window.specs.Window.{without_first}
+use Rattle.id_table.specs.Ids.{at}
 use Rattle.recv_window.specs.Window.{ClassIsTrue}
 use Rattle.tunnel_fsm.specs.Rows.{state_number}
-use Rattle.tunnel_fsm.specs.declared.table.TunnelState.TheVariants as state
-use Rattle.call_fsm.specs.declared.table.CallEvent.TheVariants as call_event
-use Rattle.call_link.specs.Link.{new_link}
-use Rattle.session_looks.specs.declared.look.CellChange.TheVariants as cell
-use Rattle.end_names.specs.Names.{node_of}
-use Rattle.end_names.specs.declared.role.Role.{Role}
 use Rattle.end_model.specs.declared.event.Event.{Event}
 use Rattle.end_model.specs.declared.moves.Place.{Place}
-use Rattle.end_model.specs.declared.moves.Added.{Added}
-use Rattle.end_model.specs.declared.moves.Replied.{Replied}
-use Rattle.end_model.specs.declared.moves.Refused.{Refused}
-use Rattle.end_model.specs.declared.moves.FirstUp.{FirstUp}
-use Rattle.end_model.specs.declared.moves.SecondUp.{SecondUp}
-use Rattle.end_model.specs.declared.moves.EndHeard.{EndHeard}
-use Rattle.end_model.specs.declared.moves.TookPlain.{TookPlain}
-use Rattle.end_model.specs.declared.moves.NrRead.{NrRead}
-use Rattle.end_model.specs.declared.moves.Closed.{Closed}
-use Rattle.end_model.specs.declared.moves.ClosedBy.{ClosedBy}
 use Rattle.end_model.specs.declared.moves.Move.{Move}
-use Rattle.end_model.specs.declared.moves.Move.TheVariants as move
-use Rattle.end_model.specs.declared.tunnel.Call.{Call}
-use Rattle.end_model.specs.Calls.{advanced, with_numbers, rung, asked_for}
-use Rattle.end_model.specs.Asking.{session_named}
-use Rattle.end_model.specs.Channels.{counts_taken, counts_acked, taken_place}
-use Rattle.end_model.specs.Messages.{connection}
-use Rattle.end_model.specs.Links.{with_link}
-use Rattle.end_model.specs.Reading.{message_in, CallFault, call_fault_in}
+use Rattle.end_model.specs.Channels.{taken_place}
 use Rattle.end_model.specs.Tunnels.{Tunnel, mode_of, is_current}
-use Rattle.end_model.specs.End.{End, new_place, with_look, with_looks}
-use Rattle.world_model.specs.World.{World, Node, Sender, Deed, config_of, epoch_of, birth_of, is_born, standing_of, moved}
+use Rattle.end_model.specs.End.{End}
+use Rattle.world_model.specs.World.{World, Node, Sender, Deed, epoch_of}
 use Rattle.world_model.specs.declared.standing.Standing.{Standing}
-use Rattle.step_laws.specs.Arrivals.{Came, ComesTo, IsNext}
-use Rattle.step_laws.specs.Letters.{Letter, letters_of}
-use Rattle.step_laws.specs.Moves.{with_tunnel, with_letter, without_call, without_calls, WhyRefused, IsNotGranted, IsOutgoing, IsReplyToNone, IsWrong}
+use Rattle.step_laws.specs.Arrivals.{Came, IsNext}
+use Rattle.step_laws.specs.Letters.{Letter}
 use Rattle.frame_laws.specs.Codecs.{Codecs}
-use Rattle.frame_laws.specs.Plain.{IsReadAs}
-use Rattle.connection_laws.specs.Facts.{Tells, IsIgnored, IsNoOpening, IsSpelled, TellsOwn, kept_letter}
-use Rattle.connection_laws.proofs.Numbers.{IsCount, is_count, IsWithout, without_count}
-use Rattle.connection_laws.proofs.Acknowledging.{kept_on}
-use Rattle.channel_laws.specs.Accounts.{Part, Unmade, Opener, Acceptor, Renewed, Taken, Account, heeded, partner_of, History, about, entered_by, after}
-use Rattle.channel_laws.specs.Facts.{Accounts, IsMade, partner_in, IsOpen, IsClosed, IsShut, IsTaken, AreTaken, AreIgnored, IsRenewed, IsInState, AreAcked, ChannelOk, LiveOk, EndOk, BookOk, NodeOk, Holds}
+use Rattle.connection_laws.specs.Facts.{Tells, IsIgnored, IsNoOpening, IsSpelled, TellsOwn}
+use Rattle.channel_laws.specs.Accounts.{Part, Unmade, Opener, Acceptor, Renewed, Taken, Account, heeded, History, about, entered_by, after}
+use Rattle.channel_laws.specs.Facts.{IsMade, partner_in, IsOpen, IsShut, IsTaken, AreTaken, AreIgnored, IsRenewed, IsInState, AreAcked, ChannelOk, LiveOk, EndOk, BookOk, NodeOk, Holds}
 use Rattle.channel_laws.specs.Recoveries.{WrittenIsRead, WrittenHasRoom}
-use Rattle.channel_laws.specs.Steps.{with_end, moves_on, IsMoved}
+use Rattle.channel_laws.specs.Steps.{moves_on, IsMoved}
 use Rattle.channel_laws.proofs.Linked.{opener_of, acceptor_of, renewed_of}
 use Rattle.channel_laws.proofs.Ends.{Puts}
-use Rattle.channel_laws.proofs.Extending.{Extends, got_given, got_left, IsOnly, all_extend}
+use Rattle.channel_laws.proofs.Extending.{Extends, got_given, IsOnly, all_extend}
 use Rattle.channel_laws.proofs.Later.{IsAlike}
 use Rattle.channel_laws.proofs.Giving.{IsPlainDeed, becomes_so, only_so}
 use Rattle.channel_laws.proofs.Going.{IsPaired, GoesOn, grows_by, goes_hold}
-use Rattle.channel_laws.proofs.GoingLater.{changes_by, later_holds}
-use Rattle.channel_laws.proofs.Open.{open_state, grows_extends, taken_as, taken_more}
-use Rattle.channel_laws.proofs.HeardLater.{HeardLater, NextLater, heard_later, next_later}
+use Rattle.channel_laws.proofs.GoingLater.{changes_by}
+use Rattle.channel_laws.proofs.Open.{open_state, taken_as, taken_more}
+use Rattle.channel_laws.proofs.HeardLater.{NextLater, next_later}
 
 -- ---- lists
 

@@ -1,19 +1,17 @@
 -- The moves of a tunnel that waits for its SCCRP: it takes one and learns an acceptor, or it rejects one.
-use Rattle.std.proofs.Common.{◌≡◌, ◌⊎◌, inl, inr, ⊎_elim, ℕ, ◌+◌, ◌<◌, ◌≤◌, Bool, true, false, cond, List, [], ◌∷◌, length, refl, sym, ap, ◌∙◌, subst, Option, Some, None, arith}
+use Rattle.std.proofs.Common.{◌≡◌, inl, inr, ⊎_elim, ℕ, ◌<◌, Bool, true, false, cond, [], length, refl, ap, ◌∙◌, subst, Option, Some, arith}
 use Rattle.std.specs.Prelude.{◌==◌}
-use Rattle.id_table.specs.Ids.{at, ids_of}
+use Rattle.id_table.specs.Ids.{at}
 use Rattle.id_table.specs.Order.{at_new, same_or_not}
 use Rattle.control_message.specs.declared.message.Message.TheVariants.{Scccn, StopCcn}
 use Rattle.control_channel.specs.Numbers.{learnt_by}
 use Rattle.tunnel_fsm.specs.Rows.{state_number}
-use Rattle.tunnel_fsm.specs.declared.table.TunnelState.{TunnelState}
 use Rattle.tunnel_fsm.specs.declared.table.TunnelState.TheVariants.{Established}
 use Rattle.tunnel_fsm.specs.declared.table.TunnelState.TheVariants as state
 use Rattle.end_model.specs.declared.event.Event.{Event}
 use Rattle.end_model.specs.declared.moves.Connected.{Connected}
 use Rattle.end_model.specs.declared.moves.Confirmed.{Confirmed}
 use Rattle.end_model.specs.declared.moves.Rejected.{Rejected}
-use Rattle.end_model.specs.declared.moves.Move.{Move}
 use Rattle.end_model.specs.declared.moves.Move.TheVariants as move
 use Rattle.end_model.specs.declared.tunnel.Control.{Control}
 use Rattle.end_model.specs.Channels.{counts_taken}
@@ -23,15 +21,15 @@ use Rattle.world_model.specs.World.{World, Node, Sender, Deed, epoch_of, moved}
 use Rattle.step_laws.specs.Moves.{with_tunnel, with_letter, learns_window, without_calls, Connects, Rejects}
 use Rattle.frame_laws.specs.Codecs.{Codecs}
 use Rattle.connection_laws.specs.Steps as calm_steps
-use Rattle.channel_laws.specs.Accounts.{Part, Unmade, Opener, Acceptor, Renewed, Account, History, after}
-use Rattle.channel_laws.specs.Facts.{IsMade, IsShut, IsOpen, IsOpener, IsPart, IsInState, ChannelOk, LiveOk, EndOk, BookOk, NodeOk, Holds}
+use Rattle.channel_laws.specs.Accounts.{Part, Unmade, Opener, Acceptor, Renewed, History, after}
+use Rattle.channel_laws.specs.Facts.{IsShut, IsOpen, IsPart, IsInState, LiveOk, EndOk, BookOk, NodeOk, Holds}
 use Rattle.channel_laws.specs.Recoveries.{WrittenIsRead, WrittenHasRoom}
 use Rattle.channel_laws.specs.Steps.{with_end, moves_on, IsMoved}
-use Rattle.channel_laws.proofs.Linked.{first_or_later, opener_of, acceptor_of, renewed_of}
-use Rattle.channel_laws.proofs.Extending.{Extends, extends_same, part_on}
+use Rattle.channel_laws.proofs.Linked.{first_or_later, opener_of, acceptor_of}
+use Rattle.channel_laws.proofs.Extending.{part_on}
 use Rattle.channel_laws.proofs.Open.{end_alike}
 use Rattle.channel_laws.proofs.Calm.{bare}
-use Rattle.channel_laws.proofs.FirstMoves.{alone_in, both_ok, live_zero, channel_zero, comes_zero, only, account, remote_first, live_first, first_holds}
+use Rattle.channel_laws.proofs.FirstMoves.{alone_in, live_zero, channel_zero, comes_zero, only, account, remote_first, live_first, first_holds}
 use Rattle.channel_laws.proofs.Alone.{alone_there, taking_bare, gives_extends, takes_extends, turns_extends, open_unless_shut, unlearned_waits, puts_so}
 use Rattle.channel_laws.proofs.Apart.{alone_with_acceptor}
 use Rattle.channel_laws.proofs.First.{plain_deed, confirmed_first}

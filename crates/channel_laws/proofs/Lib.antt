@@ -68,3 +68,4 @@ mod Committing
 mod Refusing
 mod Sending
 mod Ending
+mod Wholly

@@ -1,7 +1,7 @@
 -- A move changes the ends of no nodes, nor their checkpoints, but for the end that it leaves. And of worlds whose standings and answers agree the same
 -- holds, as far as their nodes do.
-use Rattle.std.proofs.Common.{◌≡◌, ◌⊎◌, inl, inr, ⊎_elim, ℕ, ◌+◌, ◌≤◌, ◌<◌, true, List, [], ◌∷◌, ◌++◌, refl, sym, ap, ◌∙◌, subst, Option, Some, None, arith}
-use Rattle.std.specs.Prelude.{is_some, min, ◌^◌, ◌-◌}
+use Rattle.std.proofs.Common.{◌≡◌, ⊎_elim, ℕ, ◌+◌, List, [], ◌∷◌, refl, sym, ap, ◌∙◌, subst, Option, Some, None, arith}
+use Rattle.std.specs.Prelude.{min, ◌^◌, ◌-◌}
 use Rattle.std.specs.List.{AllByRecursion}
 use Rattle.id_table.specs.Ids.{at, put}
 use Rattle.id_table.specs.Order.{at_new, at_other, same_or_not}
@@ -14,7 +14,7 @@ use Rattle.world_model.specs.declared.packet.Packet.{Packet}
 use Rattle.world_model.specs.declared.standing.Standing.{Standing}
 use Rattle.world_model.specs.World.{World, Node, standing_of, epoch_of, answer_in, with_node, with_birth, with_birth_at, is_born, with_standing, with_standing_at, with_answer_at, has_made, makes_epoch, enters_epoch, birth_of, moved, moved_all}
 use Rattle.channel_laws.specs.Accounts.{History}
-use Rattle.channel_laws.specs.Facts.{makes, IsRecovered, ChannelOk, LiveOk, EndOk, BookOk, NodeOk, StandingOk, PacketOk, Holds}
+use Rattle.channel_laws.specs.Facts.{IsRecovered, ChannelOk, LiveOk, EndOk, BookOk, NodeOk, StandingOk, PacketOk, Holds}
 pub use Rattle.channel_laws.specs.Whole.{SameLook, CountAlike}
 use Rattle.channel_laws.proofs.Agreeing.{Agree}
 use Rattle.channel_laws.proofs.Growing.{Grows, account_grows, answers_grow, packets_grow}

@@ -1,11 +1,10 @@
 -- A packet that is as what was done says is so after a move too, whether it was sent before it or is sent behind it.
-use Rattle.std.proofs.Common.{◌≡◌, ⊎_elim, ℕ, zero, suc, true, List, [], ◌∷◌, ◌++◌, refl, sym, ap, ◌∙◌, subst, Option, Some, None}
+use Rattle.std.proofs.Common.{◌≡◌, ℕ, zero, suc, List, [], ◌∷◌, ◌++◌, refl, sym, ap, ◌∙◌, subst, Option, Some, None}
 use Rattle.std.specs.Prelude.{slice_get, min, ◌+◌, ◌-◌, ◌^◌}
 use Rattle.std.specs.List.{AllByRecursion}
 use Rattle.id_table.specs.Ids.{at}
 use Rattle.end_names.specs.Names.{node_of}
 use Rattle.end_model.specs.declared.event.Event.{Event}
-use Rattle.end_model.specs.declared.event.Event.TheVariants.{Datagram}
 use Rattle.end_model.specs.declared.moves.Move.{Move}
 use Rattle.end_model.specs.declared.moves.Move.TheVariants as move
 use Rattle.end_model.specs.declared.out.Origin.{Origin}
@@ -14,13 +13,13 @@ use Rattle.end_model.specs.Tunnels.{Tunnel}
 use Rattle.end_model.specs.End.{End}
 use Rattle.world_model.specs.declared.packet.Packet.{Packet}
 use Rattle.world_model.specs.declared.standing.Standing.{Standing}
-use Rattle.world_model.specs.World.{World, Node, Sender, Deed, standing_of, epoch_of, answer_in, with_birth, with_birth_at, is_born, with_standing, with_standing_at, with_answer_at, has_made, makes_epoch, enters_epoch, birth_of, moved, moved_all}
+use Rattle.world_model.specs.World.{World, Node, Sender, Deed, standing_of, epoch_of, answer_in, with_birth, with_birth_at, is_born, with_standing, with_standing_at, with_answer_at, has_made, makes_epoch, enters_epoch, birth_of, moved}
 use Rattle.step_laws.specs.Steps.{IsOfNoStart}
 use Rattle.frame_laws.proofs.Deeds.{all_behind}
 use Rattle.channel_laws.specs.Accounts.{History, about, after}
 use Rattle.channel_laws.specs.Epochs.{IsLive, EpochsKnown}
 use Rattle.channel_laws.specs.Facts.{PacketOk, Holds}
-use Rattle.channel_laws.specs.Steps.{AreNear, IsPacket, Comes, with_end, moves_on, IsMoved, Keeps}
+use Rattle.channel_laws.specs.Steps.{AreNear, Comes, with_end, moves_on, IsMoved, Keeps}
 use Rattle.channel_laws.proofs.Looks.{CountAlike, same_look, node_agrees, packets_agree, holds_agrees}
 
 -- other packets in a world

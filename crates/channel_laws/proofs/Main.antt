@@ -1,16 +1,13 @@
 -- A control message that is for a live tunnel is none of a recovery tunnel, nor does it decline an attempt.
 use Rattle.std.proofs.Common.{◌≡◌, ◌⊎◌, inl, inr, ⊎_elim, ℕ, ◌<◌, Bool, true, false, cond, List, [], refl, sym, ap, ◌∙◌, subst, Option, Some, None, Result, Ok, Err, arith}
-use Rattle.std.proofs.lemmas.Bool.{true≢false, eqb-true, eqb-false}
-use Rattle.std.proofs.lemmas.Option.{none-some}
+use Rattle.std.proofs.lemmas.Bool.{true≢false, eqb-false}
 use Rattle.std.specs.Prelude.{is_some, ◌==◌}
 use Rattle.id_table.specs.Ids.{at}
 use Rattle.avp_codec.specs.declared.avp.Avp.{Avp}
 use Rattle.avp_codec.specs.declared.error.AvpError.{AvpError}
 use Rattle.avp_codec.specs.Reading.{avps_of}
 use Rattle.control_message.specs.declared.message.Message.{Message}
-use Rattle.control_message.specs.declared.message.Message.TheVariants.{Sccrq, Sccrp, Scccn, StopCcn}
 use Rattle.control_message.specs.declared.message.MessageError.{MessageError}
-use Rattle.control_message.specs.declared.message.Opening.{Opening}
 use Rattle.control_message.specs.declared.message.Read.{Read}
 use Rattle.control_message.specs.declared.message.Read.TheVariants.{Known, Ignored}
 use Rattle.control_message.specs.Reading.{message_of}
@@ -27,9 +24,8 @@ use Rattle.world_model.specs.World.{World, Node, Sender}
 use Rattle.step_laws.specs.Arrivals.{Came, IsAgain, IsStop, ComesTo}
 use Rattle.step_laws.specs.Opens.{empty_opens_none}
 use Rattle.frame_laws.specs.Codecs.{Codecs}
-use Rattle.connection_laws.proofs.Hearing.{same_address}
 use Rattle.connection_laws.proofs.Stops.{no_stop}
-use Rattle.channel_laws.specs.Accounts.{Unmade, Account, History}
+use Rattle.channel_laws.specs.Accounts.{Account, History}
 use Rattle.channel_laws.specs.Facts.{IsMade, SaysRecovery, AsksFor, Suggests, Confirms, Refuses, LiveOk, NodeOk, Holds}
 use Rattle.channel_laws.proofs.Coming.{OfNoTunnel, OfRecovery}
 

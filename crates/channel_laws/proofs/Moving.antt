@@ -2,7 +2,7 @@
 use Rattle.end_model.specs.declared.moves.Move.{Move}
 use Rattle.end_model.specs.declared.moves.Move.TheVariants as move
 use Rattle.step_laws.specs.Steps.{IsOfNoStart}
-use Rattle.channel_laws.specs.Steps.{Keeps, IsStill, IsOfARecovery, IsGiving, IsOpening, IsTaking, IsBeginning, StillMovesKeep, RecoveriesKeep, GivingMovesKeep, OpeningMovesKeep, TakingMovesKeep, BeginningMovesKeep}
+use Rattle.channel_laws.specs.Steps.{Keeps, StillMovesKeep, RecoveriesKeep, GivingMovesKeep, OpeningMovesKeep, TakingMovesKeep, BeginningMovesKeep}
 
 pub record Kinds : Type 0 where
   pub still : StillMovesKeep

@@ -1,9 +1,8 @@
 -- What comes in a step is near each tunnel that it is for, after each move as before it.
-use Rattle.std.proofs.Common.{◌≡◌, ◌⊎◌, inl, inr, ⊎_elim, ℕ, ◌+◌, ◌-◌, ◌%◌, ◌^◌, ◌<◌, ◌≤◌, Bool, true, false, cond, eqb, List, [], length, refl, sym, ap, ap₂, ◌∙◌, subst, Option, Some, None, Result, Ok, Err, arith}
+use Rattle.std.proofs.Common.{◌≡◌, ◌⊎◌, inl, inr, ⊎_elim, ℕ, ◌+◌, ◌-◌, ◌%◌, ◌^◌, ◌<◌, ◌≤◌, Bool, true, false, cond, eqb, List, refl, sym, ap, ap₂, ◌∙◌, subst, Option, Some, Result, Ok, Err, arith}
 use Rattle.std.proofs.lemmas.Bool.{true≢false}
 use Rattle.std.proofs.lemmas.Bool.Decides.{nat_tests}
 use Rattle.std.specs.Prelude.{nat_le, slice_get, is_some, unwrap_or}
-use Rattle.std.specs.List.{AllByRecursion}
 use Rattle.id_source.specs.Spaces.{draw_is}
 use Rattle.id_table.specs.Ids.{at}
 use Rattle.l2tp_header.specs.declared.header.Header.{Header}
@@ -11,8 +10,7 @@ use Rattle.l2tp_header.specs.Reading.{header_of, body_of}
 use Rattle.avp_codec.specs.declared.avp.Avp.{Avp}
 use Rattle.avp_codec.specs.declared.error.AvpError.{AvpError}
 use Rattle.avp_codec.specs.Reading.{avps_of}
-use Rattle.control_message.specs.declared.message.Message.{Message}
-use Rattle.control_message.specs.declared.message.Message.TheVariants.{Sccrq, Sccrp, Scccn, StopCcn}
+use Rattle.control_message.specs.declared.message.Message.TheVariants.{Sccrq, Scccn, StopCcn}
 use Rattle.control_message.specs.declared.message.MessageError.{MessageError}
 use Rattle.control_message.specs.declared.message.Opening.{Opening}
 use Rattle.control_message.specs.declared.message.Read.{Read}
@@ -25,7 +23,7 @@ use Rattle.recv_window.specs.Window.{Inbox, on_wire, class_of}
 use Rattle.wire_base.specs.declared.why.Why.TheVariants as why
 use Rattle.end_names.specs.Names.{address_of}
 use Rattle.end_model.specs.declared.event.Event.{Event}
-use Rattle.end_model.specs.declared.event.Event.TheVariants.{Datagram, Ring, Frame, Admitted, Payload, Lower, Lcp, Hang, OpenTunnel, DropCall, CloseTunnel, Tick}
+use Rattle.end_model.specs.declared.event.Event.TheVariants.{Datagram}
 use Rattle.end_model.specs.declared.event.Addressee.TheVariants.{Nobody, Opens, Stops}
 use Rattle.end_model.specs.declared.moves.Move.{Move}
 use Rattle.end_model.specs.declared.moves.Move.TheVariants as move
@@ -39,8 +37,8 @@ use Rattle.end_model.specs.Tunnels.{Tunnel, ByAttempt, ByAnswer, mode_of, is_cur
 use Rattle.end_model.specs.End.{End}
 use Rattle.world_model.specs.declared.packet.Packet.{Packet}
 use Rattle.world_model.specs.declared.standing.Standing.{Standing}
-use Rattle.world_model.specs.World.{World, Node, Sender, Deed, standing_of, epoch_of, moved}
-use Rattle.step_laws.specs.Arrivals.{Came, CameIn, ComesTo, IsFor}
+use Rattle.world_model.specs.World.{World, Node, Sender, Deed, epoch_of}
+use Rattle.step_laws.specs.Arrivals.{Came, CameIn, IsFor}
 use Rattle.step_laws.specs.Callers.{WantsTunnel, LacWants, AsksLac}
 use Rattle.step_laws.specs.Moves.{Does}
 use Rattle.step_laws.specs.Steps.{IsOfNoStart}
@@ -48,9 +46,8 @@ use Rattle.frame_laws.specs.Codecs.{Codecs}
 use Rattle.connection_laws.specs.Facts.{IsNoOpening}
 use Rattle.connection_laws.proofs.Alike.{read_same}
 use Rattle.connection_laws.proofs.Hearing.{no_message}
-use Rattle.channel_laws.specs.Accounts.{Account, no_account, History, about}
-use Rattle.channel_laws.specs.Facts.{IsMade, ChannelOk, AttemptOk, AnswerOk, IsRecovered, LiveOk, EndOk, BookOk, NodeOk, IsCopy, IsRefusal, OriginOk, PacketOk, Holds}
-use Rattle.channel_laws.specs.Recoveries.{WrittenIsRead, WrittenHasRoom}
+use Rattle.channel_laws.specs.Accounts.{Account, History, about}
+use Rattle.channel_laws.specs.Facts.{IsMade, ChannelOk, LiveOk, EndOk, BookOk, NodeOk, IsCopy, IsRefusal, OriginOk, PacketOk, Holds}
 use Rattle.channel_laws.specs.Steps.{IsNear, AreNear, IsPacket, Comes, with_end, moves_on, IsMoved}
 use Rattle.channel_laws.proofs.Agreeing.{moved_packets, moved_epoch}
 use Rattle.channel_laws.proofs.Coming.{refused_fits}
@@ -58,8 +55,8 @@ use Rattle.channel_laws.proofs.Entering.{base_same}
 use Rattle.channel_laws.proofs.Inactive.{IsReset}
 use Rattle.channel_laws.proofs.Linked.{first_or_later}
 use Rattle.channel_laws.proofs.Naming.{reply_answers, copy_names}
-use Rattle.channel_laws.proofs.Numbering.{IsActive, taken_of, acked_of, SameCounts, GoesTo, IsFirst, Counted, Stays, Takes, Reads, Begins, Resets, does_count}
-use Rattle.channel_laws.proofs.Opening.{undrawn, new_standing}
+use Rattle.channel_laws.proofs.Numbering.{IsActive, taken_of, acked_of, IsFirst, Counted, Stays, Takes, Reads, Begins, Resets, does_count}
+use Rattle.channel_laws.proofs.Opening.{undrawn}
 use Rattle.channel_laws.proofs.Readings.{IsLetterRead, IsNoneRead, copy_read, stop_read}
 use Rattle.channel_laws.proofs.Told.{all_at}
 use Rattle.channel_laws.proofs.Waiting.{waits_inactive}

@@ -1,8 +1,7 @@
 -- What a move makes of the numbers of a tunnel that is neither frozen nor restored: of the first letter that isn't acknowledged, and of the one
 -- that comes next.
-use Rattle.std.proofs.Common.{◌≡◌, ◌⊎◌, inl, inr, ⊎_elim, ℕ, ◌+◌, ◌%◌, ◌^◌, ◌<◌, ◌≤◌, Bool, true, false, cond, List, length, refl, sym, ap, ◌∙◌, subst, Option, Some, None, arith}
+use Rattle.std.proofs.Common.{◌≡◌, ⊎_elim, ℕ, ◌+◌, ◌%◌, ◌^◌, ◌<◌, ◌≤◌, Bool, true, false, cond, List, length, refl, sym, ap, ◌∙◌, subst, Option, Some, arith}
 use Rattle.std.proofs.lemmas.Bool.{true≢false}
-use Rattle.std.proofs.lemmas.Option.{none-some}
 use Rattle.std.specs.Prelude.{◌&&◌, nat_lt}
 use Rattle.id_table.specs.Ids.{at, put, without}
 use Rattle.id_table.specs.Order.{Ascends, found_put, found_without}
@@ -17,12 +16,11 @@ use Rattle.end_model.specs.declared.event.Event.{Event}
 use Rattle.end_model.specs.declared.moves.Closed.{Closed}
 use Rattle.end_model.specs.declared.moves.Move.{Move}
 use Rattle.end_model.specs.declared.moves.Move.TheVariants as move
-use Rattle.end_model.specs.declared.tunnel.Control.{Control}
 use Rattle.end_model.specs.Messages.{flags_of}
-use Rattle.end_model.specs.Tunnels.{Tunnel, Recovering, ByAttempt, ByAnswer, connection_of, with_connection, is_finished, mode_of, is_current}
+use Rattle.end_model.specs.Tunnels.{Tunnel, Recovering, ByAttempt, ByAnswer, is_finished, mode_of, is_current}
 use Rattle.end_model.specs.End.{End}
 use Rattle.step_laws.specs.Arrivals.{Came, IsNext, TellsNr}
-use Rattle.step_laws.specs.Moves.{Does, Closes, WhyCloses, ByOperator, ByLetter, begun}
+use Rattle.step_laws.specs.Moves.{Does, WhyCloses, ByOperator, ByLetter, begun}
 use Rattle.step_laws.specs.Steps.{IsOfNoStart}
 use Rattle.step_laws.specs.Ups.{reads_of_move}
 use Rattle.connection_laws.proofs.Connecting.{learnt}

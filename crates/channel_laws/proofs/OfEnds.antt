@@ -1,7 +1,7 @@
 -- The book of an end has the established tunnels of it, and what holds of them.
-use Rattle.std.proofs.Common.{◌≡◌, ◌⊎◌, inl, inr, ⊎_elim, ℕ, ◌<◌, ◌≤◌, Bool, true, false, refl, sym, ap, ◌∙◌, subst, Option, Some, None, arith}
+use Rattle.std.proofs.Common.{◌≡◌, ⊎_elim, ℕ, ◌<◌, Bool, true, false, refl, sym, ap, ◌∙◌, subst, Option, Some, None, arith}
 use Rattle.std.proofs.lemmas.Bool.{eqb-true}
-use Rattle.std.specs.Prelude.{◌==◌, if◌then◌else◌}
+use Rattle.std.specs.Prelude.{if◌then◌else◌}
 use Rattle.id_table.specs.Ids.{at}
 use Rattle.session_book.specs.declared.record.BookTunnel.{BookTunnel}
 use Rattle.session_book.specs.Books.{Kept, tunnel_at}
@@ -13,9 +13,9 @@ use Rattle.world_model.specs.World.{World, epoch_of}
 use Rattle.book_laws.specs.Books.{booked_control, tunnel_record, Mirrors}
 use Rattle.connection_laws.specs.Facts.{AllWait}
 use Rattle.channel_laws.specs.Accounts.{Part, Unmade, Opener, Acceptor, Renewed, Account, History}
-use Rattle.channel_laws.specs.Facts.{IsMade, partner_in, IsOpen, IsShut, IsInState, BookedOk, ChannelOk, LiveOk, EndOk, BookOk, Holds}
-use Rattle.channel_laws.proofs.Linked.{part_cases, opener_of, acceptor_of, renewed_of}
-use Rattle.channel_laws.proofs.Established.{KnowsOwn, established_knows}
+use Rattle.channel_laws.specs.Facts.{IsOpen, IsShut, IsInState, BookedOk, ChannelOk, LiveOk, EndOk, BookOk, Holds}
+use Rattle.channel_laws.proofs.Linked.{acceptor_of, renewed_of}
+use Rattle.channel_laws.proofs.Established.{established_knows}
 
 module _ (w : World) (h : History) (holds : Holds w h) (n : ℕ) (e : End) (ok : EndOk w h n e) where
   -- an established tunnel knows an id

@@ -1,5 +1,5 @@
 -- A tunnel is opened.
-use Rattle.std.proofs.Common.{◌≡◌, ◌⊎◌, inl, inr, ⊎_elim, ℕ, ◌+◌, ◌<◌, ◌≤◌, true, false, List, [], ◌∷◌, ◌++◌, length, refl, sym, ap, ◌∙◌, subst, Option, Some, None, arith}
+use Rattle.std.proofs.Common.{◌≡◌, ◌⊎◌, inl, ⊎_elim, ℕ, ◌+◌, ◌<◌, ◌≤◌, true, false, [], ◌∷◌, ◌++◌, refl, sym, ap, ◌∙◌, subst, Option, Some, None, arith}
 use Rattle.std.proofs.lemmas.Bool.{true≢false}
 use Rattle.std.proofs.lemmas.Option.{none-some}
 use Rattle.std.specs.Prelude.{is_some}
@@ -7,14 +7,13 @@ use Rattle.id_source.specs.Spaces.{Space, after_id, draw_is, next_is}
 use Rattle.id_table.specs.Ids.{at, at-none}
 use Rattle.id_table.specs.Order.{same_or_not}
 use Rattle.control_message.specs.declared.message.Message.TheVariants.{Sccrq}
-use Rattle.tunnel_fsm.specs.Rows.{state_number}
 use Rattle.tunnel_fsm.specs.declared.table.TunnelState.TheVariants.{WaitCtlReply}
 use Rattle.end_names.specs.Names.{address_of, node_of}
 use Rattle.end_model.specs.declared.event.Event.{Event}
 use Rattle.end_model.specs.declared.moves.Opened.{Opened}
 use Rattle.end_model.specs.declared.moves.Restored.{Restored}
 use Rattle.end_model.specs.declared.moves.Move.TheVariants as move
-use Rattle.end_model.specs.Tunnels.{Tunnel, new_tunnel, mode_of, is_current}
+use Rattle.end_model.specs.Tunnels.{Tunnel, new_tunnel}
 use Rattle.end_model.specs.Channels.{letter_of}
 use Rattle.end_model.specs.Messages.{opening_of}
 use Rattle.end_model.specs.End.{End}
@@ -23,10 +22,9 @@ use Rattle.world_model.specs.World.{World, Node, Sender, Deed, config_of, standi
 use Rattle.step_laws.specs.Callers.{WantsTunnel, LacWants}
 use Rattle.step_laws.specs.Letters.{Letter}
 use Rattle.step_laws.specs.Moves.{with_tunnel, with_letter, begun}
-use Rattle.connection_laws.specs.Facts.{AllWait}
 use Rattle.connection_laws.proofs.Written.{asks_short, opening_written, same_opening, node_again, node_fits}
 use Rattle.channel_laws.specs.Accounts.{Part, Unmade, Opener, Acceptor, Renewed, Account, no_account, History, about, gives_also, entered_by, after}
-use Rattle.channel_laws.specs.Facts.{IsMade, IsPart, IsOpener, AccountOk, ChannelOk, LiveOk, IdsOk, EndOk, BookOk, NodeOk, Holds}
+use Rattle.channel_laws.specs.Facts.{IsMade, IsPart, AccountOk, ChannelOk, LiveOk, IdsOk, EndOk, BookOk, NodeOk, Holds}
 use Rattle.channel_laws.specs.Steps.{with_end, moves_on, IsMoved}
 use Rattle.channel_laws.proofs.Alone.{puts_so}
 use Rattle.channel_laws.proofs.Ends.{Puts, put_end_apart}

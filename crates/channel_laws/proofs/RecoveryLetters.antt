@@ -1,26 +1,23 @@
 -- What a recovery tunnel sends in a step is a message of an attempt or of an answer, and is written by the codec's rules.
-use Rattle.std.proofs.Common.{◌≡◌, ◌⊎◌, inl, inr, ⊎_elim, ℕ, ◌+◌, ◌^◌, ◌%◌, ◌/◌, ◌<◌, ◌≤◌, true, false, List, [], refl, sym, ap, ap₂, ◌∙◌, subst, Option, Some, None, IfSome, length, arith}
+use Rattle.std.proofs.Common.{◌≡◌, ◌⊎◌, inl, inr, ⊎_elim, ℕ, ◌^◌, ◌%◌, ◌/◌, ◌<◌, true, false, List, [], refl, sym, ap, ap₂, ◌∙◌, subst, Some, None, arith}
 use Rattle.std.specs.Prelude.{is_some}
 use Rattle.id_table.specs.Ids.{at}
-use Rattle.wire_base.specs.Numbers.{u16_bytes, u32_bytes}
+use Rattle.wire_base.specs.Numbers.{u32_bytes}
 use Rattle.wire_base.specs.declared.cause.Cause.{Cause}
 use Rattle.wire_base.specs.declared.cause.Cause.TheVariants as cause
 use Rattle.l2tp_header.specs.Spelling.{control_bytes}
-use Rattle.avp_codec.specs.declared.avp.Avp.{Avp}
 use Rattle.avp_codec.specs.Spelling.{spelling}
 use Rattle.control_message.specs.declared.message.Message.{Message}
-use Rattle.control_message.specs.declared.message.Message.TheVariants.{Sccrq, Sccrp, Scccn, StopCcn}
+use Rattle.control_message.specs.declared.message.Message.TheVariants.{Sccrq, Sccrp, Scccn}
 use Rattle.control_message.specs.declared.message.Opening.{Opening}
 use Rattle.control_message.specs.declared.message.Recovery.{Recovery}
 use Rattle.control_message.specs.declared.message.Suggested.{Suggested}
-use Rattle.control_message.specs.Pairs.{pairs_of, recovery_pairs, opening_pairs, IsWrittenOpening, IsWritten}
+use Rattle.control_message.specs.Pairs.{pairs_of, IsWritten}
 use Rattle.recv_window.specs.Window.{on_wire}
 use Rattle.recovery_tunnel.specs.Connections.{ControlConnection, result_code, error_code, stop_of}
 use Rattle.recovery_tunnel.specs.Attempts.{request_of}
 use Rattle.recovery_tunnel.specs.Answers.{Answering, reply_of}
-use Rattle.end_names.specs.declared.role.Role.{Role}
 use Rattle.end_names.specs.Names.{address_of, node_of}
-use Rattle.end_model.specs.declared.tunnel.Config.{Config}
 use Rattle.end_model.specs.declared.moves.Restored.{Restored}
 use Rattle.end_model.specs.declared.moves.Froze.{Froze}
 use Rattle.end_model.specs.declared.out.Origin.{Origin}
@@ -33,8 +30,8 @@ use Rattle.world_model.specs.World.{World, epoch_of, packet_from}
 use Rattle.step_laws.specs.Codes.{CodesFit}
 use Rattle.step_laws.specs.Letters.{AsksRecovery, ConfirmsRecovery, AnswersRecovery, StopsRecovery, IsOfRecovery}
 use Rattle.connection_laws.proofs.Written.{asks_short, responds_sized, opening_written, node_again}
-use Rattle.channel_laws.specs.Accounts.{Account, History}
-use Rattle.channel_laws.specs.Facts.{makes, AttemptOk, AnswerOk, IsRecovered, LiveOk, EndOk, SaysRecovery, AsksFor, Suggests, Confirms, Refuses, IsRecovery, OriginOk, PacketOk, Holds}
+use Rattle.channel_laws.specs.Accounts.{History}
+use Rattle.channel_laws.specs.Facts.{makes, AttemptOk, AnswerOk, IsRecovered, LiveOk, EndOk, SaysRecovery, AsksFor, Suggests, Confirms, Refuses, OriginOk, PacketOk, Holds}
 
 -- ---- what is spelled
 

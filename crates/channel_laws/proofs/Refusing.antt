@@ -1,7 +1,7 @@
 -- An opening that is declined is the SCCRQ of a tunnel of the node that sent it, or that of an attempt there.
-use Rattle.std.proofs.Common.{◌≡◌, ◌⊎◌, inl, inr, ⊎_elim, ℕ, ◌+◌, ◌%◌, ◌<◌, Bool, true, false, cond, List, [], refl, sym, ap, ap₂, ◌∙◌, subst, Option, Some, None, Result, Ok, Err, arith}
+use Rattle.std.proofs.Common.{◌≡◌, ◌⊎◌, inl, inr, ⊎_elim, ℕ, ◌<◌, Bool, true, false, cond, List, [], refl, sym, ap, ap₂, ◌∙◌, subst, Option, Some, Result, Ok, Err, arith}
 use Rattle.std.proofs.lemmas.Option.{none-some}
-use Rattle.std.specs.Prelude.{slice_get, is_some, unwrap_or, ◌==◌}
+use Rattle.std.specs.Prelude.{is_some, ◌==◌}
 use Rattle.avp_codec.specs.declared.avp.Avp.{Avp}
 use Rattle.avp_codec.specs.declared.error.AvpError.{AvpError}
 use Rattle.avp_codec.specs.Reading.{avps_at, avps_of}
@@ -38,16 +38,15 @@ use Rattle.connection_laws.specs.Facts.{IsNoOpening}
 use Rattle.connection_laws.proofs.Alike.{IsNoRequest, same_alike, read_same, read_sound}
 use Rattle.connection_laws.proofs.Hearing.{no_message, first_only}
 use Rattle.channel_laws.specs.Accounts.{Opener, Account, History, declined_by, after}
-use Rattle.channel_laws.specs.Facts.{IsCopy, SaysRecovery, AsksFor, Suggests, Confirms, Refuses, IsRefusal, OriginOk, PacketOk, Holds}
+use Rattle.channel_laws.specs.Facts.{IsCopy, SaysRecovery, AsksFor, Suggests, Confirms, Refuses, OriginOk, PacketOk, Holds}
 use Rattle.channel_laws.specs.Recoveries.{WrittenIsRead, WrittenHasRoom}
 use Rattle.channel_laws.specs.Steps.{Comes}
 use Rattle.channel_laws.proofs.Accepting.{asks_first}
 use Rattle.channel_laws.proofs.Coming.{FromTunnel, OfNoTunnel, OfRecovery, heard}
 use Rattle.channel_laws.proofs.Declining.{declined_here, attempts_same}
-use Rattle.channel_laws.proofs.Linked.{opener_of, first_or_later}
+use Rattle.channel_laws.proofs.Linked.{opener_of}
 use Rattle.channel_laws.proofs.Main.{opens_none, zero_of}
 use Rattle.channel_laws.proofs.Readings.{IsLetterRead, IsNoneRead}
-use Rattle.channel_laws.proofs.Told.{all_at}
 use Rattle.channel_laws.proofs.Waiting.{node_again}
 
 -- ---- SCCRPs that name no tunnel

@@ -1,16 +1,14 @@
 -- An attempt that refuses an SCCRP learns of it the id of the answer that sent it.
-use Rattle.std.proofs.Common.{◌≡◌, inl, inr, ⊎_elim, ℕ, ◌<◌, true, refl, sym, ap, ap₂, ◌∙◌, subst, Option, Some, arith}
+use Rattle.std.proofs.Common.{◌≡◌, ⊎_elim, ℕ, true, sym, ap, ap₂, ◌∙◌, subst, Option, Some, arith}
 use Rattle.std.specs.Prelude.{is_some}
 use Rattle.control_message.specs.declared.message.Message.{Message}
 use Rattle.control_message.specs.declared.message.Message.TheVariants.{Sccrp}
 use Rattle.control_message.specs.declared.message.Opening.{Opening}
 use Rattle.end_names.specs.Names.{address_of}
 use Rattle.end_model.specs.declared.event.Event.{Event}
-use Rattle.end_model.specs.declared.moves.Restored.{Restored}
-use Rattle.end_model.specs.declared.moves.Froze.{Froze}
 use Rattle.end_model.specs.declared.moves.Move.TheVariants as move
 use Rattle.end_model.specs.Reading.{message_in}
-use Rattle.end_model.specs.Tunnels.{Recovering, ByAttempt}
+use Rattle.end_model.specs.Tunnels.{ByAttempt}
 use Rattle.end_model.specs.End.{End}
 use Rattle.world_model.specs.declared.packet.Packet.{Packet}
 use Rattle.world_model.specs.World.{World, Node, Sender, Deed}
@@ -18,7 +16,7 @@ use Rattle.step_laws.specs.Moves.{GoesOn, LearnsOfReply}
 use Rattle.frame_laws.specs.Codecs.{Codecs}
 use Rattle.connection_laws.proofs.Hearing.{no_message, same_address}
 use Rattle.channel_laws.specs.Accounts.{History}
-use Rattle.channel_laws.specs.Facts.{IsMade, IsRecovered, AttemptOk, LiveOk, EndOk, BookOk, NodeOk, SaysRecovery, AsksFor, Suggests, Confirms, Refuses, Holds}
+use Rattle.channel_laws.specs.Facts.{IsMade, IsRecovered, AttemptOk, LiveOk, EndOk, BookOk, NodeOk, SaysRecovery, AsksFor, Suggests, Confirms, Refuses}
 use Rattle.channel_laws.specs.Recoveries.{WrittenIsRead, WrittenHasRoom}
 use Rattle.channel_laws.specs.Steps.{IsMoved}
 use Rattle.channel_laws.proofs.Naming.{reply_answers, copy_names}

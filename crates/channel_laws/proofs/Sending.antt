@@ -1,5 +1,5 @@
 -- What goes out in a tunnel between two moves of a step is as what was done says, whatever becomes of the tunnel behind it.
-use Rattle.std.proofs.Common.{◌≡◌, ◌⊎◌, inl, inr, ⊎_elim, ℕ, ◌+◌, ◌^◌, ◌<◌, ◌≤◌, Bool, true, false, List, length, refl, sym, ap, ◌∙◌, subst, Option, Some, None, arith}
+use Rattle.std.proofs.Common.{◌≡◌, ℕ, ◌+◌, ◌^◌, ◌<◌, Bool, true, false, List, length, refl, sym, ap, ◌∙◌, subst, Some, arith}
 use Rattle.id_table.specs.Ids.{at}
 use Rattle.end_names.specs.Names.{node_of}
 use Rattle.end_model.specs.declared.moves.FrameSent.{FrameSent}
@@ -13,7 +13,7 @@ use Rattle.end_model.specs.End.{End}
 use Rattle.world_model.specs.World.{World, epoch_of, epoch_sent, packet_from}
 use Rattle.step_laws.specs.Letters.{Among, Carries}
 use Rattle.step_laws.specs.Letters as carries
-use Rattle.channel_laws.specs.Accounts.{Acceptor, Account, History}
+use Rattle.channel_laws.specs.Accounts.{Acceptor, History}
 use Rattle.channel_laws.specs.Facts.{KnowsBy, ByLetter, ByRecord, LiveOk, EndOk, OriginOk, PacketOk, Holds}
 use Rattle.channel_laws.proofs.Budgets.{Below}
 use Rattle.channel_laws.proofs.ControlSent.{letter_sent, none_sent}

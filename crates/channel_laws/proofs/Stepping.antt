@@ -1,16 +1,13 @@
 -- The moves of a step, one after another: all of it holds after each of them.
-use Rattle.std.proofs.Common.{◌≡◌, ◌⊎◌, inl, inr, ⊎_elim, ℕ, ◌+◌, ◌*◌, ◌^◌, ◌<◌, ◌≤◌, Bool, true, false, List, [], ◌∷◌, ◌++◌, length, map, refl, sym, ap, ap₂, ◌∙◌, subst, Option, Some, None, arith, append-nil, append_assoc, flat_map}
-use Rattle.std.proofs.lemmas.Bool.{true≢false}
+use Rattle.std.proofs.Common.{◌≡◌, ◌⊎◌, inl, inr, ⊎_elim, ℕ, ◌+◌, ◌*◌, ◌^◌, ◌<◌, ◌≤◌, Bool, true, false, List, [], ◌∷◌, ◌++◌, length, map, refl, sym, ap, ◌∙◌, subst, Option, Some, None, arith, append-nil, append_assoc, flat_map}
 use Rattle.std.proofs.lemmas.Grind.{flat_map-append}
 use Rattle.std.proofs.lemmas.List.{length-append}
 use Rattle.std.specs.List.{AllByRecursion}
 use Rattle.id_source.specs.Spaces.{draw_is}
 use Rattle.id_table.specs.Ids.{at}
-use Rattle.id_table.specs.Order.{Ascends}
 use Rattle.tunnel_fsm.specs.Rows.{state_number}
 use Rattle.session_book.specs.declared.record.BookTunnel.{BookTunnel}
-use Rattle.session_book.specs.Books.{Kept, tunnel_at}
-use Rattle.end_names.specs.declared.role.Role.{Role}
+use Rattle.session_book.specs.Books.{tunnel_at}
 use Rattle.end_model.specs.declared.event.Event.{Event}
 use Rattle.end_model.specs.declared.moves.Move.{Move}
 use Rattle.end_model.specs.declared.moves.Move.TheVariants as move
@@ -19,20 +16,20 @@ use Rattle.end_model.specs.Tunnels.{Tunnel, mode_of, is_current}
 use Rattle.end_model.specs.End.{End}
 use Rattle.world_model.specs.declared.packet.Packet.{Packet}
 use Rattle.world_model.specs.declared.standing.Standing.{Standing}
-use Rattle.world_model.specs.World.{World, Node, Checkpoint, Sender, Deed, standing_of, epoch_of, tunnel_of, deed_of, moved, moved_all}
+use Rattle.world_model.specs.World.{World, Node, Checkpoint, Sender, Deed, epoch_of, tunnel_of, deed_of, moved_all}
 use Rattle.step_laws.specs.Moves.{Does, Chain}
 use Rattle.step_laws.specs.Steps.{IsOfNoStart}
 use Rattle.step_laws.specs.Ups.{reads_of_move}
 use Rattle.frame_laws.specs.Codecs.{Codecs}
 use Rattle.frame_laws.proofs.Chains.{same_role, moved_more}
 use Rattle.frame_laws.proofs.Deeds.{all_before, all_behind}
-use Rattle.book_laws.specs.Books.{IsBook, Mirrors, Fits, book_after}
+use Rattle.book_laws.specs.Books.{IsBook, Mirrors, Fits}
 use Rattle.book_laws.proofs.Ceilings.{rose_none}
 use Rattle.book_laws.proofs.Lists.{entry_has}
 use Rattle.book_laws.proofs.Steps.{SpacesRose, chain_spaces, high, high_drawn, ChainGoes, chain_goes}
 use Rattle.connection_laws.specs.Steps.{IsDeed}
-use Rattle.channel_laws.specs.Accounts.{Account, no_account, History, about, after, history_from}
-use Rattle.channel_laws.specs.Facts.{IsMade, LiveOk, EndOk, BookOk, NodeOk, PacketOk, Holds}
+use Rattle.channel_laws.specs.Accounts.{Account, History, about, after, history_from}
+use Rattle.channel_laws.specs.Facts.{EndOk, BookOk, NodeOk, PacketOk, Holds}
 use Rattle.channel_laws.specs.Steps.{Comes, with_end, moves_on, IsMoved, Keeps, IsStill}
 use Rattle.channel_laws.specs.Whole.{IsAlong}
 use Rattle.channel_laws.proofs.Agreeing.{Agree, agree_back, agree_on, put_agrees, moved_agrees, chain_epoch}

@@ -1,5 +1,5 @@
 -- An open tunnel that is in a later epoch takes a letter of its other end, and may be given one.
-use Rattle.std.proofs.Common.{◌≡◌, ◌⊎◌, inl, inr, ⊎_elim, ℕ, ◌+◌, ◌<◌, ◌≤◌, true, false, List, [], ◌∷◌, ◌++◌, length, refl, sym, ap, ◌∙◌, subst, Option, Some, None, Ok, arith, append-nil, ne_eqb}
+use Rattle.std.proofs.Common.{◌≡◌, ◌⊎◌, inl, inr, ⊎_elim, ℕ, ◌+◌, ◌<◌, true, false, List, [], ◌∷◌, refl, sym, ap, ◌∙◌, subst, Option, Some, None, Ok, arith, append-nil, ne_eqb}
 use Rattle.std.proofs.lemmas.Bool.{ltb-true}
 use Rattle.std.specs.Prelude.{unwrap_or, ◌^◌}
 use Rattle.id_table.specs.Ids.{at, put, without}
@@ -32,7 +32,7 @@ use Rattle.end_model.specs.Channels.{has_room, counts_taken}
 use Rattle.end_model.specs.Messages.{connection}
 use Rattle.end_model.specs.Links.{with_link}
 use Rattle.end_model.specs.Reading.{message_in, CallFault, call_fault_in}
-use Rattle.end_model.specs.Tunnels.{Tunnel, mode_of, is_current}
+use Rattle.end_model.specs.Tunnels.{Tunnel}
 use Rattle.end_model.specs.End.{End, new_place, with_look}
 use Rattle.world_model.specs.World.{World, Node, Sender, Deed, epoch_of, birth_of, moved}
 use Rattle.step_laws.specs.Arrivals.{Came, IsNext}
@@ -42,19 +42,19 @@ use Rattle.step_laws.specs.Moves.{with_tunnel, with_letter, with_letter_as, with
 use Rattle.frame_laws.specs.Codecs.{Codecs}
 use Rattle.frame_laws.specs.Plain.{AreAlike}
 use Rattle.frame_laws.specs.Written.{IsWritten}
-use Rattle.connection_laws.specs.Facts.{Tells, IsSpelled}
+use Rattle.connection_laws.specs.Facts.{Tells}
 use Rattle.connection_laws.proofs.Alike.{IsNoRequest, read_alike, read_same, read_written, read_faulty, request_alike}
 use Rattle.channel_laws.specs.Accounts.{Account, History, declines_of, attempts_by, answers_by, after}
-use Rattle.channel_laws.specs.Facts.{ChannelOk, LiveOk, Holds}
+use Rattle.channel_laws.specs.Facts.{ChannelOk, Holds}
 use Rattle.channel_laws.specs.Recoveries.{WrittenIsRead, WrittenHasRoom}
 use Rattle.channel_laws.specs.Steps.{with_end, moves_on, IsMoved}
 use Rattle.channel_laws.proofs.Alone.{puts_so}
 use Rattle.channel_laws.proofs.Births.{birth_alike}
 use Rattle.channel_laws.proofs.Giving.{IsPlainDeed, with_places, calls_put, advanced_remote}
-use Rattle.channel_laws.proofs.Going.{GoesOn, grows_by}
+use Rattle.channel_laws.proofs.Going.{GoesOn}
 use Rattle.channel_laws.proofs.HeardLater.{NextLater}
 use Rattle.channel_laws.proofs.LaterMoves.{live_later, channel_so, next_so, takes_hold}
-use Rattle.channel_laws.proofs.Open.{end_alike, taken_as, takes_only, takes_and_gives}
+use Rattle.channel_laws.proofs.Open.{end_alike, takes_only, takes_and_gives}
 
 -- ---- deeds
 

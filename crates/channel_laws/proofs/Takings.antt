@@ -1,5 +1,5 @@
 -- Moves of a live tunnel that has learned its other end, in epoch 0 and in a later one.
-use Rattle.std.proofs.Common.{◌≡◌, ◌⊎◌, ⊎_elim}
+use Rattle.std.proofs.Common.{◌≡◌, ⊎_elim}
 use Rattle.id_table.specs.Order.{same_or_not}
 use Rattle.recv_window.specs.Window.{ClassIsTrue}
 use Rattle.end_model.specs.declared.moves.Move.TheVariants as move

@@ -8,6 +8,10 @@ ghost use Rattle.channel_laws.specs.Steps.{BeginningMovesKeep, GivingMovesKeep, 
 ghost use Rattle.connection_laws.specs.Steps.{MovesKeep};
 ghost use Rattle.frame_laws.specs.Codecs.{Codecs};
 ghost use Rattle.recv_window.specs.Window.{ClassIsTrue};
+ghost use Rattle.book_laws.specs.Books.{StepsAreBooked};
+ghost use Rattle.step_laws.specs.Steps.{StepsAreChains, StepsAreNoStarts};
+ghost use Rattle.step_laws.specs.Ups.{ReadsAreFew};
+ghost use Rattle.channel_laws.specs.Whole.{WholeStepsKeep};
 
 /// The laws that are used.
 fn laws_below()
@@ -22,6 +26,19 @@ fn laws_below()
     control_message::reads_what_was_written();
     control_message::has_room();
     connection_laws::steps_keep();
+}
+
+/// The laws of single steps that are used.
+fn laws_of_steps()
+    ensures chains { StepsAreChains }
+    ensures no_starts { StepsAreNoStarts }
+    ensures reads { ReadsAreFew }
+    ensures booked { StepsAreBooked }
+{
+    step_laws::steps_are_chains();
+    step_laws::steps_are_no_starts();
+    step_laws::reads_are_few();
+    book_laws::steps_are_booked();
 }
 
 /// In a world in which what is written in Facts and Epochs holds, a control message that may be delivered to a live tunnel, which is neither frozen
@@ -85,4 +102,21 @@ pub fn beginning_moves_keep()
     ensures { BeginningMovesKeep }
 {
     laws_below();
+}
+
+/// A step of a node that is up, all of which was committed, keeps what holds of channels over crashes: with the packets that it sends, and the book
+/// that its checkpoint has behind it; as long as the epochs of linked ends are known before each of its moves and no channel was given nearly 2^64 letters.
+/// No channel is given more than 81,919 letters more than any was before, and the moves of the step lead to a world that differs from the one that is
+/// left only in packets, births and the node's checkpoint.
+pub fn whole_steps_keep()
+    ensures { WholeStepsKeep }
+{
+    laws_below();
+    laws_of_steps();
+    still_moves_keep();
+    recoveries_keep();
+    giving_moves_keep();
+    opening_moves_keep();
+    taking_moves_keep();
+    beginning_moves_keep();
 }

@@ -1,0 +1,91 @@
+-- A whole step, with the frame that is handed up before it.
+use Rattle.std.proofs.Common.{◌≡◌, inl, inr, ℕ, ◌+◌, ◌^◌, ◌<◌, List, ◌++◌, refl, sym, ap, ◌∙◌, subst, arith}
+use Rattle.id_table.specs.Ids.{at}
+use Rattle.recv_window.specs.Window.{ClassIsTrue}
+use Rattle.end_model.specs.declared.event.Event.{Event}
+use Rattle.end_model.specs.declared.moves.Move.{Move}
+use Rattle.end_model.specs.Secrets.{uncovered_event}
+use Rattle.end_model.specs.End.{Stepped, step}
+use Rattle.world_model.specs.World.{World, Deed, Lined, hand_deed, hand_move, block_of, after_step, given}
+use Rattle.step_laws.specs.Steps.{IsOfNoStart}
+use Rattle.frame_laws.specs.Codecs.{Codecs}
+use Rattle.node_laws.specs.Nodes.{HoldsUp}
+use Rattle.channel_laws.specs.Accounts.{History, history_from}
+use Rattle.channel_laws.specs.Facts.{NodesHold, Holds}
+use Rattle.channel_laws.specs.Lines.{AreHands, WholeStep}
+use Rattle.channel_laws.specs.Steps.{Keeps}
+use Rattle.channel_laws.specs.Whole.{IsAlong, NoMove, OneMore, Below, CountAlike, SameLook, LeadsIn, KnowsAlong, WholeKept, WholeStepsKeep}
+use Rattle.channel_laws.proofs.Ending.{StepLaws, w2, h1, IsLed, all, holds2, below1, alike2, others2}
+use Rattle.channel_laws.proofs.Moving.{Kinds, each_keeps}
+use Rattle.channel_laws.proofs.Still.{same_history, nothing_by}
+
+-- a frame that was held is of no account
+hands_keep : (number : ℕ) (hs ds : List Deed) (h : History) → AreHands number hs → history_from (hs ++ ds) h ≡ history_from ds h
+unfolding history_from
+hands_keep number hs ds h (inl none) = ap (λ l. history_from (l ++ ds) h) none
+hands_keep number hs ds h (inr one) =
+    let d = hand_deed number one.0 one.1 one.2 in
+    ap (λ l. history_from (l ++ ds) h) one.3 ∙ ap (history_from ds) (same_history h d (nothing_by d (hand_move one.2) tt refl))
+
+module _ (laws : StepLaws) (kinds : Kinds) (codecs : Codecs) (classes : ClassIsTrue) (w : World) (h : History) (number : ℕ) (x : Lined) (s : WholeStep w number x) (most : ℕ)
+    (nodes : NodesHold w) (holds : Holds w h) (had : Below h most) (room : most + 147460 < 2 ^ 64) (known : KnowsAlong w h number x s) where
+  abbrev J : World → History → List Move → Type 0
+  J v g made = LeadsIn w h number x s made v g
+
+  abbrev read : Event
+  read = uncovered_event s.found.end.config.secret s.event
+
+  along : IsAlong J s.node s.sender s.found.clock read
+  along = record {
+    knows = λ v g made ok j. known made v g j ok;
+    moves = λ v g made node m y d start moved j ok. OneMore made v g node m y d start j moved;
+  }
+
+  up : HoldsUp s.old
+  up = (nodes s.node s.old s.was).up s.up
+
+  any : (m : Move) → IsOfNoStart m → Keeps m
+  any m start = each_keeps kinds m start
+
+  abbrev k1 : History
+  k1 = h1 laws any codecs classes J w h holds number s.node s.old s.was up s.found s.finds s.base s.same s.event s.sender s.comes along NoMove most had room s.checkpoint s.whole
+
+  abbrev u2 : World
+  u2 = w2 laws any codecs classes J w h holds number s.node s.old s.was up s.found s.finds s.base s.same s.event s.sender s.comes along NoMove most had room s.checkpoint s.whole
+
+  world_is : x.world ≡ u2
+  unfolding after_step given
+  world_is = s.world
+
+  done_is : history_from x.done h ≡ k1
+  unfolding after_step given
+  done_is = ap (λ ds. history_from ds h) s.done ∙ hands_keep number s.hands _ h s.are_hands
+
+  abbrev q : Stepped
+  q = step s.found.end s.found.clock (block_of s.node number) s.event
+
+  abbrev led : IsLed laws any codecs classes J w h holds number s.node s.old s.was up s.found s.finds s.base s.same s.event s.sender s.comes along NoMove most had room s.checkpoint s.whole w h q.moves q.end k1
+  led = all laws any codecs classes J w h holds number s.node s.old s.was up s.found s.finds s.base s.same s.event s.sender s.comes along NoMove most had room s.checkpoint s.whole
+
+  pub whole_kept : WholeKept w h number x s most
+  whole_kept = record {
+    holds = subst (λ v. Holds v (history_from x.done h)) (sym world_is) (subst (Holds u2) (sym done_is)
+        (holds2 laws any codecs classes J w h holds number s.node s.old s.was up s.found s.finds s.base s.same s.event s.sender s.comes along NoMove most had room s.checkpoint s.whole));
+    below = subst (λ k. Below k (most + 81919)) (sym done_is) (λ n i e.
+        (let le = below1 laws any codecs classes J w h holds number s.node s.old s.was up s.found s.finds s.base s.same s.event s.sender s.comes along NoMove most had room s.checkpoint s.whole n i e in
+        omega (arith, le)));
+    behind = led.world;
+    leads = subst (λ k. LeadsIn w h number x s q.moves led.world k) (sym done_is) led.amid.keeps;
+    holds_behind = subst (Holds led.world) (sym done_is) led.amid.holds;
+    node = led.amid.node;
+    there = led.amid.there;
+    end = led.amid.end;
+    checkpoint = led.amid.checkpoint;
+    alike = subst (CountAlike led.world) (sym world_is)
+        (alike2 laws any codecs classes J w h holds number s.node s.old s.was up s.found s.finds s.base s.same s.event s.sender s.comes along NoMove most had room s.checkpoint s.whole);
+    others = λ p o. subst (λ (v : World). SameLook (at led.world.nodes p) (at v.nodes p)) (sym world_is)
+        (others2 laws any codecs classes J w h holds number s.node s.old s.was up s.found s.finds s.base s.same s.event s.sender s.comes along NoMove most had room s.checkpoint s.whole p o);
+  }
+
+pub whole_steps_keep : StepLaws → Kinds → Codecs → ClassIsTrue → WholeStepsKeep
+whole_steps_keep laws kinds codecs classes w h number x s most nodes holds had room known = whole_kept laws kinds codecs classes w h number x s most nodes holds had room known
