@@ -132,7 +132,7 @@ pub fn calls_are_not_left()
 }
 
 /// A tick leaves no tunnel that was made 60 seconds ago or more and isn't set up, none that was closed 31 seconds ago or more, and none whose
-/// oldest unacknowledged letter was repeated five times, the last time 8 seconds ago or more; and no other is removed, nor by another event.
+/// oldest unacknowledged letter was repeated five times, the last time 8 seconds ago or more.
 pub fn failed_tunnels_go()
     ensures { FailedTunnelsGo }
 {}
