@@ -64,17 +64,17 @@ pub record StepLaws : Type 0 where
 -- ---- lists of moves
 
 -- one of them, and those before and behind it
-record IsSplit (moment : ℕ) (ev : Event) (e z : End) (m : Move) (ms : List Move) : Type 0 where
-  before : List Move
-  behind : List Move
-  is : ms ≡ before ++ (m ∷ behind)
-  from : End
-  to : End
-  comes : Chain moment ev e before from
-  does : Does from moment ev m to
-  goes : Chain moment ev to behind z
+pub record IsSplit (moment : ℕ) (ev : Event) (e z : End) (m : Move) (ms : List Move) : Type 0 where
+  pub before : List Move
+  pub behind : List Move
+  pub is : ms ≡ before ++ (m ∷ behind)
+  pub from : End
+  pub to : End
+  pub comes : Chain moment ev e before from
+  pub does : Does from moment ev m to
+  pub goes : Chain moment ev to behind z
 
-split : (moment : ℕ) (ev : Event) (e z : End) (m : Move) (ms : List Move) → Among m ms → Chain moment ev e ms z → IsSplit moment ev e z m ms
+pub split : (moment : ℕ) (ev : Event) (e z : End) (m : Move) (ms : List Move) → Among m ms → Chain moment ev e ms z → IsSplit moment ev e z m ms
 split moment ev e z m [] none chain = absurd none
 split moment ev e z m (k ∷ ks) (inl same) chain = record {
   before = [];
@@ -99,12 +99,12 @@ split moment ev e z m (k ∷ ks) (inr more) chain =
       goes = s.goes;
     }
 
-deeds_more : (f : Move → Deed) (ms ns : List Move) (h : History) → history_from (map f ns) (history_from (map f ms) h) ≡ history_from (map f (ms ++ ns)) h
+pub deeds_more : (f : Move → Deed) (ms ns : List Move) (h : History) → history_from (map f ns) (history_from (map f ms) h) ≡ history_from (map f (ms ++ ns)) h
 unfolding history_from
 deeds_more f [] ns h = refl
 deeds_more f (m ∷ ms) ns h = deeds_more f ms ns (after h (f m))
 
-deed_last : (f : Move → Deed) (ms : List Move) (m : Move) (h : History) → history_from (map f (ms ++ m ∷ [])) h ≡ after (history_from (map f ms) h) (f m)
+pub deed_last : (f : Move → Deed) (ms : List Move) (m : Move) (h : History) → history_from (map f (ms ++ m ∷ [])) h ≡ after (history_from (map f ms) h) (f m)
 unfolding history_from
 deed_last f [] m h = refl
 deed_last f (k ∷ ks) m h = deed_last f ks m (after h (f k))
@@ -135,8 +135,7 @@ same_agree w v same = record {
 module _ (laws : StepLaws) (any : (m : Move) → IsOfNoStart m → Keeps m) (codecs : Codecs) (classes : ClassIsTrue) (J : World → History → List Move → Type 0) (w : World) (h : History)
     (holds : Holds w h) (number n : ℕ) (old : Node) (was : at w.nodes n ≡ Some old) (up : HoldsUp old) (found : Node) (finds : Finds old found) (base : World) (same : AreSame w base)
     (ev : Event) (sender : Option Sender) (comes : ComesIn w n old ev sender)
-    (along : IsAlong J n sender found.clock (uncovered_event found.end.config.secret ev)) (first : J w h []) (most : ℕ) (had : Below h most) (room : most + 147460 < 2 ^ 64) (k : Checkpoint)
-    (whole : commits found.checkpoint (contents_of found.end (plain_step found.end found.clock (block_of n number) (uncovered_event found.end.config.secret ev))) ≡ IsWhole k) where
+    (along : IsAlong J n sender found.clock (uncovered_event found.end.config.secret ev)) (first : J w h []) (most : ℕ) (had : Below h most) (room : most + 147460 < 2 ^ 64) (k : Checkpoint) where
   abbrev pub moment : ℕ
   moment = found.clock
 
@@ -173,9 +172,6 @@ module _ (laws : StepLaws) (any : (m : Move) → IsOfNoStart m → Keeps m) (cod
 
   booked : StepIsBooked e0 c0.book s
   booked = laws.booked e0 c0.book kept0 fit0 book0 moment (block_of n number) read
-
-  book_then : IsBook s.end k.book
-  book_then = subst (IsBook s.end) (sym (whole_book c0 (contents_of e0 s) booked.in_place k whole)) booked.book
 
   -- the node behind the step, and the world in which its moves are told
   abbrev pub left : Node
@@ -215,6 +211,12 @@ module _ (laws : StepLaws) (any : (m : Move) → IsOfNoStart m → Keeps m) (cod
   IsLed v g made x k1 =
       Led any codecs J n sender moment read along number w b0 e0 s.end c0 fit0 book0 s.moves starts is_chain.chain top limit (omega arith) (omega arith) (omega (arith, room)) few v g made x k1
 
+  -- what comes, before its moves
+  pub comes0 : Comes w h n e0 sender read
+  comes0 =
+      subst (λ (q : End). Comes w h n q sender (uncovered_event q.config.secret ev)) (sym finds.end)
+      (comes_first codecs classes w h holds (along.knows w h [] holds first) n old was ev sender comes)
+
   amid0 : IsAmid [] e0 w h
   unfolding moved_all
   amid0 = record {
@@ -224,8 +226,7 @@ module _ (laws : StepLaws) (any : (m : Move) → IsOfNoStart m → Keeps m) (cod
     checkpoint = sym finds.checkpoint;
     holds = holds;
     keeps = first;
-    comes = subst (λ (q : End). Comes w h n q sender (uncovered_event q.config.secret ev)) (sym finds.end)
-        (comes_first codecs classes w h holds (along.knows w h [] holds first) n old was ev sender comes);
+    comes = comes0;
     unbooked = unbooked0;
     active = λ i t there on.
         (let le = active_first w h holds most had n old.end both_ok.0 i t (subst (λ (q : End). at q.tunnels i ≡ Some t) finds.end there) on in omega (arith, le));
@@ -260,193 +261,198 @@ module _ (laws : StepLaws) (any : (m : Move) → IsOfNoStart m → Keeps m) (cod
   pub all : IsLed w h s.moves s.end h1
   all = led_to s.moves [] s.end (sym (append-nil s.moves)) is_chain.chain refl
 
-  -- ---- the world in which they are told
-
-  pub agrees1 : (g : History) (v : World) → IsAmid s.moves s.end v g → Agree v w1
-  agrees1 g v amid = amid.agrees
-
-  others_look : (q : ℕ) → (q ≡ n → ⊥) → SameLook (at w.nodes q) (at w1.nodes q)
-  others_look q o =
-      subst (λ x. SameLook x (at w1.nodes q)) (at_other base.nodes n left q o ∙ ap (λ ns. at ns q) same.nodes) (all_look n s.moves b0 q)
-
-  own : (b : Node) × (at w1.nodes n ≡ Some b) × (b.end ≡ s.end) × (b.checkpoint ≡ k)
-  own = looks_so left (at w1.nodes n) (subst (λ x. SameLook x (at w1.nodes n)) (at_new base.nodes n left) (all_look n s.moves b0 n))
-
-  end1 : EndOk all.world h1 n s.end
-  end1 =
-      let both : EndOk all.world h1 n all.amid.node.end × BookOk h1 n all.amid.node.checkpoint.book = subst (NodeOk all.world h1 n) all.amid.there (all.amid.holds.nodes n) in
-      subst (EndOk all.world h1 n) all.amid.end both.0
-
-  node1 : (q : ℕ) → NodeOk w1 h1 q (at w1.nodes q)
-  node1 q = ⊎_elim
-      (λ (is : q ≡ n).
-      subst (λ z. NodeOk w1 h1 z (at w1.nodes z)) (sym is)
-      (subst (NodeOk w1 h1 n) (sym own.1) (
-        subst (EndOk w1 h1 n) (sym own.2) (end_agrees all.world w1 h1 (count_alike all.world w1 all.amid.agrees) n s.end end1),
-        subst (λ (c : Checkpoint). BookOk h1 n c.book) (sym own.3) (book_ok all.world h1 all.amid.holds n s.end end1 k.book book_then.mirrors),
-      )))
-      (λ (o : q ≡ n → ⊥).
-      node_agrees all.world w1 h1 (count_alike all.world w1 all.amid.agrees) q (at all.world.nodes q) (at w1.nodes q)
-      (look_on (at all.world.nodes q) (at w.nodes q) (at w1.nodes q) (look_back (at w.nodes q) (at all.world.nodes q) (all.amid.others q o)) (others_look q o)) (all.amid.holds.nodes q))
-      (same_or_not q n)
-
-  pub holds1 : Holds w1 h1
-  holds1 =
-      let alike = count_alike all.world w1 all.amid.agrees in
-      holds_agrees all.world w1 h1 alike all.amid.holds node1
-      (subst (AllByRecursion _) (sym all.amid.agrees.packets) (packets_agree all.world w1 h1 alike all.world.packets all.amid.holds.packets))
-
-  pub below1 : Below h1 limit
-  below1 = all.amid.below
-
-  -- ---- what it sends
-
-  end_there : (made : List Move) (y : End) (v : World) (g : History) → IsAmid made y v g → EndOk v g n y
+  -- the end of its node
+  pub end_there : (made : List Move) (y : End) (v : World) (g : History) → IsAmid made y v g → EndOk v g n y
   end_there made y v g amid =
       let both : EndOk v g n amid.node.end × BookOk g n amid.node.checkpoint.book = subst (NodeOk v g n) amid.there (amid.holds.nodes n) in
       subst (EndOk v g n) amid.end both.0
 
-  -- a packet that is as what was done says up to some move, is so as the step leaves it
-  carried_on : (p : Packet) (made rest : List Move) (y : End) (v : World) (g : History) → g ≡ history_from (map deed_in made) h → s.moves ≡ made ++ rest → Chain moment read e0 made y
-      → Chain moment read y rest s.end → IsAmid made y v g → PacketOk v g p → PacketOk w1 h1 p
-  carried_on p made rest y v g g_is are comes_so goes amid ok =
-      let led = led_on made rest y v g amid are comes_so goes in
-      let k1 = history_from (map deed_in rest) g in
-      let at_end : IsAmid s.moves s.end led.world k1 = subst (λ l. IsAmid l s.end led.world k1) (sym are) led.amid in
-      let same : k1 ≡ h1 = ap (history_from (map deed_in rest)) g_is ∙ (deeds_more deed_in made rest h ∙ ap (λ l. history_from (map deed_in l) h) (sym are)) in
-      subst (λ q. PacketOk w1 q p) same (packets_agree led.world w1 k1 (count_alike led.world w1 at_end.agrees) (p ∷ []) (led.mail p ok, tt)).0
+  -- ---- the world in which they are told
 
-  module _ (made rest : List Move) (y : End) (are : s.moves ≡ made ++ rest) (comes_so : Chain moment read e0 made y) (goes : Chain moment read y rest s.end) where
-    frames_fit : FramesFit made
-    frames_fit f among =
-        let sp = split moment read e0 y (move.FrameSent f) made among comes_so in
-        let after_it = sp.behind ++ rest in
-        let is : s.moves ≡ sp.before ++ (move.FrameSent f ∷ after_it) = are ∙ (ap (λ l. l ++ rest) sp.is ∙ append_assoc sp.before (move.FrameSent f ∷ sp.behind) rest) in
-        let led = led_to sp.before (move.FrameSent f ∷ after_it) sp.from is sp.comes (sp.to, sp.does, chain_both moment read sp.to y s.end sp.behind rest sp.goes goes) in
-        let ok = end_there sp.before sp.from led.world (history_from (map deed_in sp.before) h) led.amid in
-        let remote = sp.does.remote in
-        let lt = (ok.live f.tunnel sp.does.tunnel sp.does.there).calls f.session sp.does.call sp.does.calls in
-        omega (arith, remote, lt)
+  module _ (whole : commits c0 (contents_of e0 s) ≡ IsWhole k) where
+    book_then : IsBook s.end k.book
+    book_then = subst (IsBook s.end) (sym (whole_book c0 (contents_of e0 s) booked.in_place k whole)) booked.book
 
-    starts_rest : AllByRecursion IsOfNoStart rest
-    starts_rest = all_behind IsOfNoStart made rest (subst (AllByRecursion IsOfNoStart) are starts)
+    pub agrees1 : (g : History) (v : World) → IsAmid s.moves s.end v g → Agree v w1
+    agrees1 g v amid = amid.agrees
 
-    epoch_told : (v : World) (g : History) → IsAmid made y v g → (i : ℕ) (t : Tunnel) → at y.tunnels i ≡ Some t → is_current (mode_of t.recovery) ≡ true → epoch_of w1 n i ≡ epoch_of v n i
-    epoch_told v g amid i t there current =
-        ap (λ q. epoch_of q n i) (ap (λ l. moved_all n l b0) are ∙ moved_more n made rest b0)
-        ∙ (chain_epoch n moment read y s.end rest starts_rest goes order i (inl never) (moved_all n made b0) ∙ ap (λ (st : Standing). st.epoch) (amid.agrees.standings n i))
-      where
-        order : (q : End) (part left : List Move) → rest ≡ part ++ left → Chain moment read y part q → Ascends q.tunnels
-        order q part left is from =
-            (fits_there any codecs J n sender moment read along number w b0 e0 s.end c0 fit0 book0 s.moves starts is_chain.chain top limit (omega arith) (omega arith) (omega (arith, room)) few
-            (made ++ part) left q (are ∙ (ap (λ l. made ++ l) is ∙ sym (append_assoc made part left))) (chain_both moment read e0 y q made part comes_so from)).tables.order
+    others_look : (q : ℕ) → (q ≡ n → ⊥) → SameLook (at w.nodes q) (at w1.nodes q)
+    others_look q o =
+        subst (λ x. SameLook x (at w1.nodes q)) (at_other base.nodes n left q o ∙ ap (λ ns. at ns q) same.nodes) (all_look n s.moves b0 q)
 
-        never : IsInactive y i → ⊥
-        never k1 = let two = sym there ∙ k1.there in let one : t ≡ k1.tunnel = cc in
-            true≢false (sym current ∙ (ap (λ (q : Tunnel). is_current (mode_of q.recovery)) one ∙ k1.inactive))
+    own : (b : Node) × (at w1.nodes n ≡ Some b) × (b.end ≡ s.end) × (b.checkpoint ≡ k)
+    own = looks_so left (at w1.nodes n) (subst (λ x. SameLook x (at w1.nodes n)) (at_new base.nodes n left) (all_look n s.moves b0 n))
 
-    amid_sent : (peer : ℕ) (bytes : List ℕ) (o : Origin) (i : ℕ) (t : Tunnel) → at y.tunnels i ≡ Some t → peer ≡ t.control.peer → Carries y.role y.config t made bytes o
-        → PacketOk w1 h1 (packet_from n (node_of peer) bytes o (epoch_sent w1 n o))
-    amid_sent peer bytes o i t there peer_is carries =
-        let g = history_from (map deed_in made) h in
-        let led = led_to made rest y are comes_so goes in
-        carried_on (packet_from n (node_of peer) bytes o (epoch_sent w1 n o)) made rest y led.world g refl are comes_so goes led.amid
-        (carries_ok led.world g led.amid.holds n y (end_there made y led.world g led.amid) limit led.amid.below (omega (arith, room)) w1 i t there
-        (λ current. epoch_told led.world g led.amid i t there current) peer peer_is bytes made frames_fit o carries)
+    end1 : EndOk all.world h1 n s.end
+    end1 =
+        let both : EndOk all.world h1 n all.amid.node.end × BookOk h1 n all.amid.node.checkpoint.book = subst (NodeOk all.world h1 n) all.amid.there (all.amid.holds.nodes n) in
+        subst (EndOk all.world h1 n) all.amid.end both.0
 
-  -- a StopCCN of no tunnel tells no epoch
-  no_epoch : epoch_of w1 n 0 ≡ 0
-  no_epoch = ap (λ (st : Standing). st.epoch) ((holds1.standings n 0).none unmade)
-    where
-      unmade : (h1.accounts n 0 0).part ≡ Unmade
-      unmade = by (h1.accounts n 0 0).part refl
+    node1 : (q : ℕ) → NodeOk w1 h1 q (at w1.nodes q)
+    node1 q = ⊎_elim
+        (λ (is : q ≡ n).
+        subst (λ z. NodeOk w1 h1 z (at w1.nodes z)) (sym is)
+        (subst (NodeOk w1 h1 n) (sym own.1) (
+          subst (EndOk w1 h1 n) (sym own.2) (end_agrees all.world w1 h1 (count_alike all.world w1 all.amid.agrees) n s.end end1),
+          subst (λ (c : Checkpoint). BookOk h1 n c.book) (sym own.3) (book_ok all.world h1 all.amid.holds n s.end end1 k.book book_then.mirrors),
+        )))
+        (λ (o : q ≡ n → ⊥).
+        node_agrees all.world w1 h1 (count_alike all.world w1 all.amid.agrees) q (at all.world.nodes q) (at w1.nodes q)
+        (look_on (at all.world.nodes q) (at w.nodes q) (at w1.nodes q) (look_back (at w.nodes q) (at all.world.nodes q) (all.amid.others q o)) (others_look q o)) (all.amid.holds.nodes q))
+        (same_or_not q n)
+
+    pub holds1 : Holds w1 h1
+    holds1 =
+        let alike = count_alike all.world w1 all.amid.agrees in
+        holds_agrees all.world w1 h1 alike all.amid.holds node1
+        (subst (AllByRecursion _) (sym all.amid.agrees.packets) (packets_agree all.world w1 h1 alike all.world.packets all.amid.holds.packets))
+
+    pub below1 : Below h1 limit
+    below1 = all.amid.below
+
+    -- ---- what it sends
+
+    -- a packet that is as what was done says up to some move, is so as the step leaves it
+    carried_on : (p : Packet) (made rest : List Move) (y : End) (v : World) (g : History) → g ≡ history_from (map deed_in made) h → s.moves ≡ made ++ rest → Chain moment read e0 made y
+        → Chain moment read y rest s.end → IsAmid made y v g → PacketOk v g p → PacketOk w1 h1 p
+    carried_on p made rest y v g g_is are comes_so goes amid ok =
+        let led = led_on made rest y v g amid are comes_so goes in
+        let k1 = history_from (map deed_in rest) g in
+        let at_end : IsAmid s.moves s.end led.world k1 = subst (λ l. IsAmid l s.end led.world k1) (sym are) led.amid in
+        let same : k1 ≡ h1 = ap (history_from (map deed_in rest)) g_is ∙ (deeds_more deed_in made rest h ∙ ap (λ l. history_from (map deed_in l) h) (sym are)) in
+        subst (λ q. PacketOk w1 q p) same (packets_agree led.world w1 k1 (count_alike led.world w1 at_end.agrees) (p ∷ []) (led.mail p ok, tt)).0
+
+    module _ (made rest : List Move) (y : End) (are : s.moves ≡ made ++ rest) (comes_so : Chain moment read e0 made y) (goes : Chain moment read y rest s.end) where
+      frames_fit : FramesFit made
+      frames_fit f among =
+          let sp = split moment read e0 y (move.FrameSent f) made among comes_so in
+          let after_it = sp.behind ++ rest in
+          let is : s.moves ≡ sp.before ++ (move.FrameSent f ∷ after_it) = are ∙ (ap (λ l. l ++ rest) sp.is ∙ append_assoc sp.before (move.FrameSent f ∷ sp.behind) rest) in
+          let led = led_to sp.before (move.FrameSent f ∷ after_it) sp.from is sp.comes (sp.to, sp.does, chain_both moment read sp.to y s.end sp.behind rest sp.goes goes) in
+          let ok = end_there sp.before sp.from led.world (history_from (map deed_in sp.before) h) led.amid in
+          let remote = sp.does.remote in
+          let lt = (ok.live f.tunnel sp.does.tunnel sp.does.there).calls f.session sp.does.call sp.does.calls in
+          omega (arith, remote, lt)
+
+      starts_rest : AllByRecursion IsOfNoStart rest
+      starts_rest = all_behind IsOfNoStart made rest (subst (AllByRecursion IsOfNoStart) are starts)
+
+      epoch_told : (v : World) (g : History) → IsAmid made y v g → (i : ℕ) (t : Tunnel) → at y.tunnels i ≡ Some t → is_current (mode_of t.recovery) ≡ true → epoch_of w1 n i ≡ epoch_of v n i
+      epoch_told v g amid i t there current =
+          ap (λ q. epoch_of q n i) (ap (λ l. moved_all n l b0) are ∙ moved_more n made rest b0)
+          ∙ (chain_epoch n moment read y s.end rest starts_rest goes order i (inl never) (moved_all n made b0) ∙ ap (λ (st : Standing). st.epoch) (amid.agrees.standings n i))
         where
-          never : IsMade (h1.accounts n 0 0) → ⊥
-          never made = let lt = (holds1.accounts n 0 0).some made in omega (arith, lt)
+          order : (q : End) (part left : List Move) → rest ≡ part ++ left → Chain moment read y part q → Ascends q.tunnels
+          order q part left is from =
+              (fits_there any codecs J n sender moment read along number w b0 e0 s.end c0 fit0 book0 s.moves starts is_chain.chain top limit (omega arith) (omega arith) (omega (arith, room)) few
+              (made ++ part) left q (are ∙ (ap (λ l. made ++ l) is ∙ sym (append_assoc made part left))) (chain_both moment read e0 y q made part comes_so from)).tables.order
 
-          by : (p : Part) → (h1.accounts n 0 0).part ≡ p → p ≡ Unmade
-          by Unmade own_part = refl
-          by Opener own_part = absurd (never (λ z. let two : Opener ≡ Unmade = sym own_part ∙ z in absurd cc))
-          by Acceptor own_part = absurd (never (λ z. let two : Acceptor ≡ Unmade = sym own_part ∙ z in absurd cc))
-          by Renewed own_part = absurd (never (λ z. let two : Renewed ≡ Unmade = sym own_part ∙ z in absurd cc))
+          never : IsInactive y i → ⊥
+          never k1 = let two = sym there ∙ k1.there in let one : t ≡ k1.tunnel = cc in
+              true≢false (sym current ∙ (ap (λ (q : Tunnel). is_current (mode_of q.recovery)) one ∙ k1.inactive))
 
-  decline_ok : (peer : ℕ) (bytes : List ℕ) (o : Origin) → IsDecline s.moves peer bytes o → PacketOk w1 h1 (packet_from n (node_of peer) bytes o (epoch_sent w1 n o))
-  decline_ok peer bytes o dec =
-      let m = dec.declined in
-      let mv = move.Declined m in
-      let sp = split moment read e0 s.end mv s.moves dec.there is_chain.chain in
-      let g = history_from (map deed_in sp.before) h in
-      let led = led_to sp.before (mv ∷ sp.behind) sp.from sp.is sp.comes (sp.to, sp.does, sp.goes) in
-      let for = declined_for codecs laws.again laws.has_room led.world g led.amid.holds n sp.from sp.to sender read led.amid.comes m sp.does in
-      let lt = (end_there sp.before sp.from led.world g led.amid).node in
-      let made = sp.before ++ mv ∷ [] in
-      let are : s.moves ≡ made ++ sp.behind = sp.is ∙ sym (append_assoc sp.before (mv ∷ []) sp.behind) in
-      let came = chain_both moment read e0 sp.from sp.to sp.before (mv ∷ []) sp.comes (sp.to, sp.does, refl) in
-      let led2 = led_to made sp.behind sp.to are came sp.goes in
-      let g2 = history_from (map deed_in made) h in
-      let last : g2 ≡ after g (deed_in mv) = deed_last deed_in sp.before mv h in
-      let none : epoch_sent w1 n o ≡ 0 = ap (epoch_sent w1 n) dec.origin_is ∙ no_epoch in
-      subst (λ u. PacketOk w1 h1 (packet_from n (node_of peer) bytes o u)) (sym none)
-      (carried_on (packet_from n (node_of peer) bytes o 0) made sp.behind sp.to led2.world g2 refl are came sp.goes led2.amid
-      (subst (λ q. PacketOk led2.world q (packet_from n (node_of peer) bytes o 0)) (sym last)
-      (decline_sent led2.world g (deed_in mv) n m lt refl for peer bytes o dec.peer_is dec.bytes_are dec.origin_is)))
+      amid_sent : (peer : ℕ) (bytes : List ℕ) (o : Origin) (i : ℕ) (t : Tunnel) → at y.tunnels i ≡ Some t → peer ≡ t.control.peer → Carries y.role y.config t made bytes o
+          → PacketOk w1 h1 (packet_from n (node_of peer) bytes o (epoch_sent w1 n o))
+      amid_sent peer bytes o i t there peer_is carries =
+          let g = history_from (map deed_in made) h in
+          let led = led_to made rest y are comes_so goes in
+          carried_on (packet_from n (node_of peer) bytes o (epoch_sent w1 n o)) made rest y led.world g refl are comes_so goes led.amid
+          (carries_ok led.world g led.amid.holds n y (end_there made y led.world g led.amid) limit led.amid.below (omega (arith, room)) w1 i t there
+          (λ current. epoch_told led.world g led.amid i t there current) peer peer_is bytes made frames_fit o carries)
 
-  abbrev OutOk : Out → Type 0
-  OutOk (Send peer bytes o) = PacketOk w1 h1 (packet_from n (node_of peer) bytes o (epoch_sent w1 n o))
-  OutOk (Up session side frame) = Unit {0}
-  OutOk (Gone session) = Unit {0}
-  OutOk (Drop x) = Unit {0}
-  OutOk (Cause x) = Unit {0}
+    -- a StopCCN of no tunnel tells no epoch
+    no_epoch : epoch_of w1 n 0 ≡ 0
+    no_epoch = ap (λ (st : Standing). st.epoch) ((holds1.standings n 0).none unmade)
+      where
+        unmade : (h1.accounts n 0 0).part ≡ Unmade
+        unmade = by (h1.accounts n 0 0).part refl
+          where
+            never : IsMade (h1.accounts n 0 0) → ⊥
+            never made = let lt = (holds1.accounts n 0 0).some made in omega (arith, lt)
 
-  out_ok : (o : Out) → IsOfMoves moment read e0 s.moves s.end o → OutOk o
-  out_ok (Send peer bytes o) (inl k1) = amid_sent k1.amid.made k1.amid.rest k1.amid.end k1.amid.moves_are k1.amid.comes k1.amid.goes peer bytes o k1.id k1.tunnel k1.there k1.peer_is k1.carries
-  out_ok (Send peer bytes o) (inr k1) = decline_ok peer bytes o k1
-  out_ok (Up session side frame) k1 = tt
-  out_ok (Gone session) k1 = tt
-  out_ok (Drop x) k1 = tt
-  out_ok (Cause x) k1 = tt
+            by : (p : Part) → (h1.accounts n 0 0).part ≡ p → p ≡ Unmade
+            by Unmade own_part = refl
+            by Opener own_part = absurd (never (λ z. let two : Opener ≡ Unmade = sym own_part ∙ z in absurd cc))
+            by Acceptor own_part = absurd (never (λ z. let two : Acceptor ≡ Unmade = sym own_part ∙ z in absurd cc))
+            by Renewed own_part = absurd (never (λ z. let two : Renewed ≡ Unmade = sym own_part ∙ z in absurd cc))
 
-  record IsShown (u : World) : Type 0 where
-    mail : List Packet
-    is : u ≡ with_mail w1 mail
-    all : AllByRecursion (PacketOk w1 h1) mail
+    decline_ok : (peer : ℕ) (bytes : List ℕ) (o : Origin) → IsDecline s.moves peer bytes o → PacketOk w1 h1 (packet_from n (node_of peer) bytes o (epoch_sent w1 n o))
+    decline_ok peer bytes o dec =
+        let m = dec.declined in
+        let mv = move.Declined m in
+        let sp = split moment read e0 s.end mv s.moves dec.there is_chain.chain in
+        let g = history_from (map deed_in sp.before) h in
+        let led = led_to sp.before (mv ∷ sp.behind) sp.from sp.is sp.comes (sp.to, sp.does, sp.goes) in
+        let for = declined_for codecs laws.again laws.has_room led.world g led.amid.holds n sp.from sp.to sender read led.amid.comes m sp.does in
+        let lt = (end_there sp.before sp.from led.world g led.amid).node in
+        let made = sp.before ++ mv ∷ [] in
+        let are : s.moves ≡ made ++ sp.behind = sp.is ∙ sym (append_assoc sp.before (mv ∷ []) sp.behind) in
+        let came = chain_both moment read e0 sp.from sp.to sp.before (mv ∷ []) sp.comes (sp.to, sp.does, refl) in
+        let led2 = led_to made sp.behind sp.to are came sp.goes in
+        let g2 = history_from (map deed_in made) h in
+        let last : g2 ≡ after g (deed_in mv) = deed_last deed_in sp.before mv h in
+        let none : epoch_sent w1 n o ≡ 0 = ap (epoch_sent w1 n) dec.origin_is ∙ no_epoch in
+        subst (λ u. PacketOk w1 h1 (packet_from n (node_of peer) bytes o u)) (sym none)
+        (carried_on (packet_from n (node_of peer) bytes o 0) made sp.behind sp.to led2.world g2 refl are came sp.goes led2.amid
+        (subst (λ q. PacketOk led2.world q (packet_from n (node_of peer) bytes o 0)) (sym last)
+        (decline_sent led2.world g (deed_in mv) n m lt refl for peer bytes o dec.peer_is dec.bytes_are dec.origin_is)))
 
-  shows : (os : List Out) (ps : List Packet) → AllByRecursion (IsOfMoves moment read e0 s.moves s.end) os → AllByRecursion (PacketOk w1 h1) ps → IsShown (shown_all n os (with_mail w1 ps))
-  unfolding shown_all shown
-  shows [] ps of ok = record { mail = ps; is = refl; all = ok }
-  shows (Send peer bytes o ∷ os) ps of ok =
-      let p = packet_from n (node_of peer) bytes o (epoch_sent w1 n o) in
-      subst (λ u. IsShown (shown_all n os u)) (sym (sent_is w1 ps n (node_of peer) bytes o))
-      (shows os (ps ++ p ∷ []) of.1 (all_joined (PacketOk w1 h1) ps p ok (out_ok (Send peer bytes o) of.0)))
-  shows (Up session side frame ∷ os) ps of ok = shows os ps of.1 ok
-  shows (Gone session ∷ os) ps of ok = shows os ps of.1 ok
-  shows (Drop x ∷ os) ps of ok = shows os ps of.1 ok
-  shows (Cause x ∷ os) ps of ok = shows os ps of.1 ok
+    abbrev OutOk : Out → Type 0
+    OutOk (Send peer bytes o) = PacketOk w1 h1 (packet_from n (node_of peer) bytes o (epoch_sent w1 n o))
+    OutOk (Up session side frame) = Unit {0}
+    OutOk (Gone session) = Unit {0}
+    OutOk (Drop x) = Unit {0}
+    OutOk (Cause x) = Unit {0}
 
-  all_shown : IsShown (shown_all n s.outputs w1)
-  all_shown = shows s.outputs w1.packets is_chain.outputs holds1.packets
+    out_ok : (o : Out) → IsOfMoves moment read e0 s.moves s.end o → OutOk o
+    out_ok (Send peer bytes o) (inl k1) = amid_sent k1.amid.made k1.amid.rest k1.amid.end k1.amid.moves_are k1.amid.comes k1.amid.goes peer bytes o k1.id k1.tunnel k1.there k1.peer_is k1.carries
+    out_ok (Send peer bytes o) (inr k1) = decline_ok peer bytes o k1
+    out_ok (Up session side frame) k1 = tt
+    out_ok (Gone session) k1 = tt
+    out_ok (Drop x) k1 = tt
+    out_ok (Cause x) k1 = tt
 
-  abbrev pub w2 : World
-  w2 = shown_all n s.outputs w1
+    record IsShown (u : World) : Type 0 where
+      mail : List Packet
+      is : u ≡ with_mail w1 mail
+      all : AllByRecursion (PacketOk w1 h1) mail
 
-  shown_alike : CountAlike w1 w2
-  shown_alike = subst (CountAlike w1) (sym all_shown.is) (mail_alike w1 all_shown.mail)
+    shows : (os : List Out) (ps : List Packet) → AllByRecursion (IsOfMoves moment read e0 s.moves s.end) os → AllByRecursion (PacketOk w1 h1) ps → IsShown (shown_all n os (with_mail w1 ps))
+    unfolding shown_all shown
+    shows [] ps of ok = record { mail = ps; is = refl; all = ok }
+    shows (Send peer bytes o ∷ os) ps of ok =
+        let p = packet_from n (node_of peer) bytes o (epoch_sent w1 n o) in
+        subst (λ u. IsShown (shown_all n os u)) (sym (sent_is w1 ps n (node_of peer) bytes o))
+        (shows os (ps ++ p ∷ []) of.1 (all_joined (PacketOk w1 h1) ps p ok (out_ok (Send peer bytes o) of.0)))
+    shows (Up session side frame ∷ os) ps of ok = shows os ps of.1 ok
+    shows (Gone session ∷ os) ps of ok = shows os ps of.1 ok
+    shows (Drop x ∷ os) ps of ok = shows os ps of.1 ok
+    shows (Cause x ∷ os) ps of ok = shows os ps of.1 ok
 
-  pub alike2 : CountAlike all.world w2
-  alike2 = record {
-    standings = λ m j. shown_alike.standings m j ∙ all.amid.agrees.standings m j;
-    makes_as = λ m c. shown_alike.makes_as m c ∙ all.amid.agrees.makes_as m c;
-  }
+    all_shown : IsShown (shown_all n s.outputs w1)
+    all_shown = shows s.outputs w1.packets is_chain.outputs holds1.packets
 
-  pub holds2 : Holds w2 h1
-  holds2 =
-      subst (λ u. Holds u h1) (sym all_shown.is)
-      (let u = with_mail w1 all_shown.mail in
-      let alike = mail_alike w1 all_shown.mail in
-      holds_agrees w1 u h1 alike holds1 (λ q. node_agrees w1 u h1 alike q (at w1.nodes q) (at w1.nodes q) (same_look (at w1.nodes q)) (holds1.nodes q))
-      (packets_agree w1 u h1 alike all_shown.mail all_shown.all))
+    abbrev pub w2 : World
+    w2 = shown_all n s.outputs w1
 
-  pub others2 : (q : ℕ) → (q ≡ n → ⊥) → SameLook (at all.world.nodes q) (at w2.nodes q)
-  others2 q o =
-      subst (λ (u : World). SameLook (at all.world.nodes q) (at u.nodes q)) (sym all_shown.is)
-      (look_on (at all.world.nodes q) (at w.nodes q) (at w1.nodes q) (look_back (at w.nodes q) (at all.world.nodes q) (all.amid.others q o)) (others_look q o))
+    shown_alike : CountAlike w1 w2
+    shown_alike = subst (CountAlike w1) (sym all_shown.is) (mail_alike w1 all_shown.mail)
+
+    pub alike2 : CountAlike all.world w2
+    alike2 = record {
+      standings = λ m j. shown_alike.standings m j ∙ all.amid.agrees.standings m j;
+      makes_as = λ m c. shown_alike.makes_as m c ∙ all.amid.agrees.makes_as m c;
+    }
+
+    pub holds2 : Holds w2 h1
+    holds2 =
+        subst (λ u. Holds u h1) (sym all_shown.is)
+        (let u = with_mail w1 all_shown.mail in
+        let alike = mail_alike w1 all_shown.mail in
+        holds_agrees w1 u h1 alike holds1 (λ q. node_agrees w1 u h1 alike q (at w1.nodes q) (at w1.nodes q) (same_look (at w1.nodes q)) (holds1.nodes q))
+        (packets_agree w1 u h1 alike all_shown.mail all_shown.all))
+
+    pub others2 : (q : ℕ) → (q ≡ n → ⊥) → SameLook (at all.world.nodes q) (at w2.nodes q)
+    others2 q o =
+        subst (λ (u : World). SameLook (at all.world.nodes q) (at u.nodes q)) (sym all_shown.is)
+        (look_on (at all.world.nodes q) (at w.nodes q) (at w1.nodes q) (look_back (at w.nodes q) (at all.world.nodes q) (all.amid.others q o)) (others_look q o))

@@ -69,3 +69,6 @@ mod Refusing
 mod Sending
 mod Ending
 mod Wholly
+mod Records
+mod Earlier
+mod Cutting

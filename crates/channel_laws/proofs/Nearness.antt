@@ -117,7 +117,7 @@ module _ (body : List ℕ) (r : Option (List ℕ)) where
   pairs_so (Ok avps) said = reads_so avps (message_of avps) said
   pairs_so (Err e) said = absurd cc
 
-  confirmation_none : message_in body ≡ Ok (Scccn r) → at_zero body ≡ Nobody why.Tunnel
+  pub confirmation_none : message_in body ≡ Ok (Scccn r) → at_zero body ≡ Nobody why.Tunnel
   unfolding message_in at_zero
   confirmation_none said = pairs_so (avps_of body) said
 

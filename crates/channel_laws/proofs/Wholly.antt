@@ -48,7 +48,7 @@ module _ (laws : StepLaws) (kinds : Kinds) (codecs : Codecs) (classes : ClassIsT
   any m start = each_keeps kinds m start
 
   abbrev k1 : History
-  k1 = h1 laws any codecs classes J w h holds number s.node s.old s.was up s.found s.finds s.base s.same s.event s.sender s.comes along NoMove most had room s.checkpoint s.whole
+  k1 = h1 laws any codecs classes J w h holds number s.node s.old s.was up s.found s.finds s.base s.same s.event s.sender s.comes along NoMove most had room s.checkpoint
 
   abbrev u2 : World
   u2 = w2 laws any codecs classes J w h holds number s.node s.old s.was up s.found s.finds s.base s.same s.event s.sender s.comes along NoMove most had room s.checkpoint s.whole
@@ -64,8 +64,8 @@ module _ (laws : StepLaws) (kinds : Kinds) (codecs : Codecs) (classes : ClassIsT
   abbrev q : Stepped
   q = step s.found.end s.found.clock (block_of s.node number) s.event
 
-  abbrev led : IsLed laws any codecs classes J w h holds number s.node s.old s.was up s.found s.finds s.base s.same s.event s.sender s.comes along NoMove most had room s.checkpoint s.whole w h q.moves q.end k1
-  led = all laws any codecs classes J w h holds number s.node s.old s.was up s.found s.finds s.base s.same s.event s.sender s.comes along NoMove most had room s.checkpoint s.whole
+  abbrev led : IsLed laws any codecs classes J w h holds number s.node s.old s.was up s.found s.finds s.base s.same s.event s.sender s.comes along NoMove most had room s.checkpoint w h q.moves q.end k1
+  led = all laws any codecs classes J w h holds number s.node s.old s.was up s.found s.finds s.base s.same s.event s.sender s.comes along NoMove most had room s.checkpoint
 
   pub whole_kept : WholeKept w h number x s most
   whole_kept = record {
