@@ -1,23 +1,31 @@
 -- A step of a node, all of which was committed: what its moves lead to, and what it sends.
-use Rattle.std.proofs.Common.{◌≡◌, inl, inr, ⊎_elim, ℕ, ◌+◌, ◌^◌, ◌<◌, ◌≤◌, Bool, true, false, List, [], ◌∷◌, ◌++◌, map, refl, sym, ap, ◌∙◌, subst, Option, Some, None, arith, append-nil, append_assoc}
+use Rattle.std.proofs.Common.{◌⊎◌, ◌≡◌, inl, inr, ⊎_elim, ℕ, ◌+◌, ◌^◌, ◌<◌, ◌≤◌, Bool, true, false, List, [], ◌∷◌, ◌++◌, map, refl, sym, ap, ◌∙◌, subst, Option, Some, None, arith, append-nil, append_assoc, ap₂, Ok}
 use Rattle.std.proofs.lemmas.Bool.{true≢false, eqb-true}
-use Rattle.std.specs.Prelude.{is_some, if◌then◌else◌}
+use Rattle.std.specs.Prelude.{is_some, if◌then◌else◌, ◌==◌, ◌&&◌}
 use Rattle.std.specs.List.{AllByRecursion}
+use Rattle.id_source.specs.Spaces.{draw_is}
 use Rattle.id_table.specs.Ids.{at}
 use Rattle.id_table.specs.Order.{Ascends, at_new, at_other, same_or_not}
 use Rattle.recv_window.specs.Window.{ClassIsTrue}
 use Rattle.session_book.specs.Books.{tunnel_at}
 use Rattle.tunnel_fsm.specs.Rows.{state_number}
-use Rattle.end_names.specs.Names.{node_of}
+use Rattle.end_names.specs.Names.{address_of, node_of}
 use Rattle.end_model.specs.declared.event.Event.{Event}
 use Rattle.end_model.specs.declared.event.Event.TheVariants.{Datagram}
+use Rattle.wire_base.specs.declared.why.Why.TheVariants as why
+use Rattle.control_message.specs.declared.message.Message.{Message}
+use Rattle.control_message.specs.declared.message.Message.TheVariants.{Sccrp, Scccn, StopCcn}
+use Rattle.end_model.specs.declared.event.Addressee.TheVariants.{Opens, Stops, Answers, Nobody}
+use Rattle.end_model.specs.declared.moves.Connected.{Connected}
+use Rattle.end_model.specs.declared.moves.Confirmed.{Confirmed}
+use Rattle.end_model.specs.Reading.{message_in, at_zero}
 use Rattle.end_model.specs.declared.moves.Move.{Move}
 use Rattle.end_model.specs.declared.moves.Move.TheVariants as move
 use Rattle.end_model.specs.declared.out.Out.{Out}
 use Rattle.end_model.specs.declared.out.Out.TheVariants.{Send, Up, Gone, Drop, Cause}
 use Rattle.end_model.specs.declared.out.Origin.{Origin}
 use Rattle.end_model.specs.declared.out.Origin.TheVariants as origin
-use Rattle.end_model.specs.Contents.{contents_of}
+use Rattle.end_model.specs.Contents.{call_down, tunnel_down, mark_by, records_of, contents_of}
 use Rattle.end_model.specs.Moments.{is_open}
 use Rattle.end_model.specs.Secrets.{uncovered_event}
 use Rattle.end_model.specs.Tunnels.{Tunnel, mode_of, is_current}
@@ -25,6 +33,7 @@ use Rattle.end_model.specs.End.{End, Stepped, plain_step}
 use Rattle.world_model.specs.declared.packet.Packet.{Packet}
 use Rattle.world_model.specs.declared.standing.Standing.{Standing}
 use Rattle.world_model.specs.World.{World, Node, Checkpoint, Sender, Deed, IsWhole, standing_of, answer_in, epoch_of, with_node, block_of, commits, deed_of, moved_all, epoch_sent, packet_from, sent, shown, shown_all}
+use Rattle.step_laws.specs.Arrivals.{Came, ComesTo, IsAgain, IsStop}
 use Rattle.step_laws.specs.Letters.{Among, Carries}
 use Rattle.step_laws.specs.Moves.{Does, Chain}
 use Rattle.step_laws.specs.Steps.{AreKept, IsOfNoStart, IsChain, IsDecline, IsOfMoves, StepsAreChains, StepsAreNoStarts}
@@ -32,10 +41,11 @@ use Rattle.step_laws.specs.Ups.{most_reads, ReadsAreFew}
 use Rattle.frame_laws.specs.Codecs.{Codecs}
 use Rattle.frame_laws.proofs.Chains.{moved_more}
 use Rattle.frame_laws.proofs.Deeds.{all_behind}
+use Rattle.book_laws.proofs.Lists.{and_left, and_right}
 use Rattle.book_laws.specs.Books.{booked_control, tunnel_record, IsBook, Fits, StepIsBooked, StepsAreBooked}
 use Rattle.node_laws.specs.Nodes.{HoldsUp}
-use Rattle.channel_laws.specs.Accounts.{Part, Unmade, Opener, Acceptor, Renewed, History, after, history_from}
-use Rattle.channel_laws.specs.Facts.{IsMade, EndOk, BookOk, NodeOk, PacketOk, Holds}
+use Rattle.channel_laws.specs.Accounts.{Part, Unmade, Opener, Acceptor, Renewed, History, after, history_from, Account, about, entered_by}
+use Rattle.channel_laws.specs.Facts.{IsMade, EndOk, BookOk, NodeOk, PacketOk, Holds, partner_in, ByLetter, ByRecord, BookedOk, LiveOk}
 use Rattle.channel_laws.specs.Lines.{AreSame, Finds, ComesIn}
 use Rattle.channel_laws.specs.Recoveries.{WrittenIsRead, WrittenHasRoom}
 use Rattle.channel_laws.specs.Steps.{Comes, Keeps}
@@ -43,7 +53,16 @@ use Rattle.channel_laws.specs.Whole.{IsAlong}
 use Rattle.channel_laws.proofs.Agreeing.{Agree, agree_on, put_agrees, chain_epoch}
 use Rattle.channel_laws.proofs.Arriving.{comes_first}
 use Rattle.channel_laws.proofs.Budgets.{Below, active_first}
+use Rattle.channel_laws.proofs.Coming.{FromTunnel}
 use Rattle.channel_laws.proofs.Committing.{whole_book}
+use Rattle.channel_laws.proofs.Cutting.{IsFrom, is_from, replies, sent_by, early_state, waits_accepted, knows_remote}
+use Rattle.channel_laws.proofs.Earlier.{PartOf, SamePart, FirstPart, RenewedPart, part_of, part_after, made_along, attempts_along, answers_along}
+use Rattle.channel_laws.proofs.Linked.{renewed_of}
+use Rattle.channel_laws.proofs.Main.{used_once}
+use Rattle.channel_laws.proofs.Naming.{reply_answers}
+use Rattle.channel_laws.proofs.Nearness.{confirmation_none}
+use Rattle.channel_laws.proofs.Numbering.{IsActive, IsFirst, Counted, Stays, Takes, Reads, Begins, Resets, does_count}
+use Rattle.channel_laws.proofs.Records.{Brings}
 use Rattle.channel_laws.proofs.Inactive.{IsInactive}
 use Rattle.channel_laws.proofs.Looks.{SameLook, CountAlike, same_look, look_back, look_on, all_look, looks_so, count_alike, end_agrees, node_agrees, packets_agree, holds_agrees}
 use Rattle.channel_laws.proofs.Mailing.{with_mail, mail_alike, all_joined}
@@ -60,6 +79,13 @@ pub record StepLaws : Type 0 where
   pub booked : StepsAreBooked
   pub again : WrittenIsRead
   pub has_room : WrittenHasRoom
+
+-- a tunnel isn't established, and neither frozen nor restored
+record WasEarly (x : End) (i : ℕ) : Type 0 where
+  tunnel : Tunnel
+  there : at x.tunnels i ≡ Some tunnel
+  active : IsActive tunnel
+  early : state_number tunnel.control.state < 3
 
 -- ---- lists of moves
 
@@ -266,6 +292,262 @@ module _ (laws : StepLaws) (any : (m : Move) → IsOfNoStart m → Keeps m) (cod
   end_there made y v g amid =
       let both : EndOk v g n amid.node.end × BookOk g n amid.node.checkpoint.book = subst (NodeOk v g n) amid.there (amid.holds.nodes n) in
       subst (EndOk v g n) amid.end both.0
+
+  -- ---- what its records bring
+
+  -- a tunnel that was there before the step
+  module _ (i : ℕ) (made_i : IsMade (h.accounts n i 0)) where
+    -- a part of its moves, and the next one
+    module _ (pre rest : List Move) (m : Move) (x y : End) (are : s.moves ≡ pre ++ (m ∷ rest)) (comes_so : Chain moment read e0 pre x) (does : Does x moment read m y)
+        (goes : Chain moment read y rest s.end) where
+      abbrev g : History
+      g = history_from (map deed_in pre) h
+
+      led : IsLed w h pre x g
+      led = led_to pre (m ∷ rest) x are comes_so (y, does, goes)
+
+      ok : EndOk led.world g n x
+      ok = end_there pre x led.world g led.amid
+
+      start : IsOfNoStart m
+      start = (all_behind IsOfNoStart pre (m ∷ rest) (subst (AllByRecursion IsOfNoStart) are starts)).0
+
+      -- it doesn't begin then
+      begun : IsFirst m → about m ≡ i → ⊥
+      begun = by m does
+        where
+          drawn : (k1 : ℕ) → k1 ≡ x.tunnel_ids.next → k1 ≡ i → ⊥
+          drawn k1 is it = let lt = ok.ids.tunnels i (made_along deed_in pre h n i 0 made_i) in omega (arith, is, it, lt)
+
+          by : (q : Move) → Does x moment read q y → IsFirst q → about q ≡ i → ⊥
+          by (move.Opened q) d first it = drawn q.tunnel (draw_is x.tunnel_ids q.tunnel d.drawn).0 it
+          by (move.Accepted q) d first it = drawn q.tunnel (draw_is x.tunnel_ids q.tunnel d.drawn).0 it
+          by q d first it = first
+
+      -- where it isn't established behind the move, it wasn't before
+      one_back : WasEarly y i → WasEarly x i
+      one_back later = by (does_count x y moment read m start order does i later.tunnel later.there later.active)
+        where
+          order : Ascends x.tunnels
+          order = (fits_there any codecs J n sender moment read along number w b0 e0 s.end c0 fit0 book0 s.moves starts is_chain.chain top limit (omega arith) (omega arith) (omega (arith, room)) few
+              pre (m ∷ rest) x are comes_so).tables.order
+
+          by : Counted x moment read m i later.tunnel → WasEarly x i
+          by (Stays q there on same) = record { tunnel = q; there = there; active = on; early = same.goes.early later.early }
+          by (Takes q c there on next to more acked) = record { tunnel = q; there = there; active = on; early = to.early later.early }
+          by (Reads q nr one there on tells to remote taken acked) = record { tunnel = q; there = there; active = on; early = to.early later.early }
+          by (Begins first it taken acked) = absurd (begun first it)
+          by (Resets q reset it there off state acked) =
+              let three = (ok.live i q there).established off in
+              let alike = ap state_number state in
+              let lt = later.early in
+              absurd (omega (arith, three, alike, lt))
+
+      abbrev its : Bool
+      its = (((deed_in m).node == n) && (about (deed_in m).move == i)) && ((deed_in m).epoch == 0)
+
+      -- it entered its first epoch as it did
+      one_part : ((history_from (map deed_in (pre ++ m ∷ [])) h).accounts n i 0).part ≡ (g.accounts n i 0).part
+      one_part = ap (λ (z : History). (z.accounts n i 0).part) (deed_last deed_in pre m h) ∙ (part_after g (deed_in m) n i 0 ∙ by its refl)
+        where
+          renews : (entered_by (deed_in m) m (g.accounts n i 0)).part ≡ Renewed → its ≡ true → ⊥
+          renews renewed is =
+              let made = pre ++ m ∷ [] in
+              let behind_it = led_to made rest y (are ∙ sym (append_assoc pre (m ∷ []) rest)) (chain_both moment read e0 x y pre (m ∷ []) comes_so (y, does, refl)) goes in
+              let g1 = history_from (map deed_in made) h in
+              let part : (g1.accounts n i 0).part ≡ Renewed =
+              ap (λ (z : History). (z.accounts n i 0).part) (deed_last deed_in pre m h) ∙ (part_after g (deed_in m) n i 0
+              ∙ (ap (λ (z : Bool). (if z then entered_by (deed_in m) m (g.accounts n i 0) else g.accounts n i 0).part) is ∙ renewed)) in
+              let lt = (renewed_of behind_it.world g1 n i 0 (g1.accounts n i 0) (behind_it.amid.holds.accounts n i 0) part).later in
+              omega (arith, lt)
+
+          by : (z : Bool) → its ≡ z → (if z then entered_by (deed_in m) m (g.accounts n i 0) else g.accounts n i 0).part ≡ (g.accounts n i 0).part
+          by true is = kind (part_of (deed_in m) m (g.accounts n i 0))
+            where
+              kind : PartOf (deed_in m) m (g.accounts n i 0) → (entered_by (deed_in m) m (g.accounts n i 0)).part ≡ (g.accounts n i 0).part
+              kind (SamePart alike) = alike
+              kind (FirstPart first there) = absurd (begun first (eqb-true (about m) i (and_right (n == n) (about m == i) (and_left ((n == n) && (about m == i)) ((deed_in m).epoch == 0) is))))
+              kind (RenewedPart reset renewed) = absurd (renews renewed is)
+          by false is = refl
+
+    -- so it is of more of its moves
+    early_back : (ns pre rest : List Move) (x y : End) → s.moves ≡ pre ++ (ns ++ rest) → Chain moment read e0 pre x → Chain moment read x ns y → Chain moment read y rest s.end
+        → WasEarly y i → WasEarly x i
+    early_back [] pre rest x y are comes_so steps goes later = subst (λ q. WasEarly q i) (sym steps) later
+    early_back (m ∷ ns) pre rest x y are comes_so steps goes later =
+        let behind_it = early_back ns (pre ++ m ∷ []) rest steps.0 y (are ∙ sym (append_assoc pre (m ∷ []) (ns ++ rest)))
+        (chain_both moment read e0 x steps.0 pre (m ∷ []) comes_so (steps.0, steps.1, refl)) steps.2 goes later in
+        one_back pre (ns ++ rest) m x steps.0 are comes_so steps.1 (chain_both moment read steps.0 y s.end ns rest steps.2 goes) behind_it
+
+    part_back : (ns pre rest : List Move) (x y : End) → s.moves ≡ pre ++ (ns ++ rest) → Chain moment read e0 pre x → Chain moment read x ns y → Chain moment read y rest s.end
+        → ((history_from (map deed_in (pre ++ ns)) h).accounts n i 0).part ≡ ((history_from (map deed_in pre) h).accounts n i 0).part
+    part_back [] pre rest x y are comes_so steps goes = ap (λ l. ((history_from (map deed_in l) h).accounts n i 0).part) (append-nil pre)
+    part_back (m ∷ ns) pre rest x y are comes_so steps goes =
+        ap (λ l. ((history_from (map deed_in l) h).accounts n i 0).part) (sym (append_assoc pre (m ∷ []) ns))
+        ∙ (part_back ns (pre ++ m ∷ []) rest steps.0 y (are ∙ sym (append_assoc pre (m ∷ []) (ns ++ rest)))
+        (chain_both moment read e0 x steps.0 pre (m ∷ []) comes_so (steps.0, steps.1, refl)) steps.2 goes
+        ∙ one_part pre (ns ++ rest) m x steps.0 are comes_so steps.1 (chain_both moment read steps.0 y s.end ns rest steps.2 goes))
+
+  -- a move by which a tunnel is established: what came
+  module _ (mv : Move) (among : Among mv s.moves) where
+    abbrev sp : IsSplit moment read e0 s.end mv s.moves
+    sp = split moment read e0 s.end mv s.moves among is_chain.chain
+
+    abbrev gs : History
+    gs = history_from (map deed_in sp.before) h
+
+    led_there : IsLed w h sp.before sp.from gs
+    led_there = led_to sp.before (mv ∷ sp.behind) sp.from sp.is sp.comes (sp.to, sp.does, sp.goes)
+
+    ok_there : EndOk led_there.world gs n sp.from
+    ok_there = end_there sp.before sp.from led_there.world gs led_there.amid
+
+    module _ (i : ℕ) (t : Tunnel) (there : at sp.from.tunnels i ≡ Some t) (current : is_current (mode_of t.recovery) ≡ true) (early : state_number t.control.state < 3) (came : Came)
+        (to : ComesTo read t.control came) (msg : Message) (said : message_in came.body ≡ Ok msg) (other : (result : ℕ) (error : Option ℕ) → msg ≡ StopCcn 0 result error → ⊥)
+        (no_again : (r : ℕ) → at_zero came.body ≡ Opens r → ⊥) (no_stops : (r : ℕ) → at_zero came.body ≡ Stops r → ⊥) where
+      live_there : LiveOk led_there.world gs n i t
+      live_there = ok_there.live i t there
+
+      some_i : 0 < i
+      some_i = (led_there.amid.holds.accounts n i 0).some live_there.made
+
+      names : came.header.tunnel ≡ i
+      names = ⊎_elim
+          (λ (is : came.header.tunnel ≡ t.control.local). is ∙ live_there.local)
+          (λ k1. ⊎_elim (λ (z : IsAgain came.header came.body t.control). absurd (no_again t.control.remote z.opens)) (λ (z : IsStop came.header came.body t.control). absurd (no_stops t.control.remote z.stops)) k1)
+          to.tunnel
+
+      unused_there : (is_some (gs.attempts n i) ≡ true) ⊎ (is_some (gs.answers n i) ≡ true) → ⊥
+      unused_there = used_once led_there.world gs led_there.amid.holds n i live_there.made
+
+      sent_before : FromTunnel w h n e0 sender came to.came.bytes
+      sent_before = sent_by codecs laws.again laws.has_room w h holds n e0 sender read comes0 i some_i came to.came names msg said other
+          (⊎_elim (λ k1. unused_there (inl (attempts_along deed_in sp.before h n i k1))) (λ k1. unused_there (inr (answers_along deed_in sp.before h n i k1))))
+
+      sent_then : FromTunnel led_there.world gs n sp.from sender came to.came.bytes
+      sent_then = sent_by codecs laws.again laws.has_room led_there.world gs led_there.amid.holds n sp.from sender read led_there.amid.comes i some_i came to.came names msg said other unused_there
+
+      from_before : IsFrom h sender came.peer n i
+      from_before = is_from w h holds n e0 sender i some_i came to.came.bytes sent_before names
+
+      from_then : IsFrom gs sender came.peer n i
+      from_then = is_from led_there.world gs led_there.amid.holds n sp.from sender i some_i came to.came.bytes sent_then names
+
+      was_early : WasEarly e0 i
+      was_early = early_back i from_before.made sp.before [] (mv ∷ sp.behind) e0 sp.from sp.is refl sp.comes (sp.to, sp.does, sp.goes)
+          (record { tunnel = t; there = there; active = current; early = early })
+
+      live_before : LiveOk w h n i was_early.tunnel
+      live_before = both_ok.0.live i was_early.tunnel (subst (λ (q : End). at q.tunnels i ≡ Some was_early.tunnel) finds.end was_early.there)
+
+      part_before : ((history_from (map deed_in sp.before) h).accounts n i 0).part ≡ (h.accounts n i 0).part
+      unfolding history_from
+      part_before = part_back i from_before.made sp.before [] (mv ∷ sp.behind) e0 sp.from sp.is refl sp.comes (sp.to, sp.does, sp.goes)
+
+  connected_booked : (c : Connected) → Among (move.Connected c) s.moves
+      → BookedOk h n (record { local = c.tunnel; remote = c.remote; peer = c.peer; window = c.window; flags = c.flags; mark = 0 })
+  connected_booked c among =
+      let mv = move.Connected c in
+      let d = (sp mv among).does in
+      let to = d.takes.next.comes in
+      let one : state_number d.tunnel.control.state ≡ 1 = ap state_number d.state in
+      let early : state_number d.tunnel.control.state < 3 = omega (arith, one) in
+      let reply = reply_answers d.letter.body d.opening d.said in
+      let no_again : (r : ℕ) → at_zero d.letter.body ≡ Opens r → ⊥ = (λ r z. (let two : Answers d.opening.tunnel ≡ Opens r = sym reply ∙ z in cc)) in
+      let no_stops : (r : ℕ) → at_zero d.letter.body ≡ Stops r → ⊥ = (λ r z. (let two : Answers d.opening.tunnel ≡ Stops r = sym reply ∙ z in cc)) in
+      let other : (result : ℕ) (error : Option ℕ) → Sccrp d.opening ≡ StopCcn 0 result error → ⊥ = (λ r x z. cc) in
+      let f = sent_before mv among c.tunnel d.tunnel d.there d.current early d.letter to (Sccrp d.opening) d.said other no_again no_stops in
+      let from = from_before mv among c.tunnel d.tunnel d.there d.current early d.letter to (Sccrp d.opening) d.said other no_again no_stops in
+      let named = names mv among c.tunnel d.tunnel d.there d.current early d.letter to (Sccrp d.opening) d.said other no_again no_stops in
+      let some = some_i mv among c.tunnel d.tunnel d.there d.current early d.letter to (Sccrp d.opening) d.said other no_again no_stops in
+      let r = replies w h holds n e0 sender c.tunnel some d.letter to.came.bytes f named codecs d.opening (ap message_in (sym to.came.body_is) ∙ d.said) in
+      let e = was_early mv among c.tunnel d.tunnel d.there d.current early d.letter to (Sccrp d.opening) d.said other no_again no_stops in
+      let live = live_before mv among c.tunnel d.tunnel d.there d.current early d.letter to (Sccrp d.opening) d.said other no_again no_stops in
+      let fresh = early_state w h holds n c.tunnel e.tunnel live e.active e.early in
+      let both : ◌≡◌ {A = Sender} (record { node = from.from; tunnel = from.tunnel }) (record { node = f.packet.from; tunnel = f.o.tunnel }) = (let two = sym from.sender_is ∙ f.sender_is in cc) in
+      let from_is : from.from ≡ f.packet.from = ap (λ (z : Sender). z.node) both in
+      let tunnel_is : from.tunnel ≡ f.o.tunnel = ap (λ (z : Sender). z.tunnel) both in
+      let remote_is : c.remote ≡ from.tunnel = d.remote ∙ (r.1 ∙ sym tunnel_is) in
+      let acceptor : (h.accounts from.from from.tunnel 0).part ≡ Acceptor = ap₂ (λ x y. (h.accounts x y 0).part) from_is tunnel_is ∙ r.0 in
+      let opener = from.acceptor acceptor in
+      let there : h.accounts (h.accounts n c.tunnel 0).peer c.remote 0 ≡ h.accounts from.from from.tunnel 0 = ap₂ (λ x y. h.accounts x y 0) from.back_peer remote_is in
+      record {
+        made = from.made;
+        peer = d.peer ∙ (sym to.peer ∙ (from.address ∙ ap address_of (sym from.back_peer)));
+        remote = (let lt = from.some in omega (arith, lt, remote_is));
+        knows = ByRecord opener (fresh.1 opener) (ap (λ (z : Account). z.part) there ∙ acceptor) (ap (λ (z : Account). z.peer) there ∙ from.peer_is)
+            (ap (λ (z : Account). z.remote) there ∙ from.remote_is);
+        learned = λ own. (let two : Opener ≡ Acceptor = sym opener ∙ own in absurd cc);
+        late = λ closed. (let two = sym fresh.0 ∙ closed in cc);
+      }
+
+  confirmed_booked : (c : Confirmed) → Among (move.Confirmed c) s.moves
+      → BookedOk h n (record { local = c.tunnel; remote = c.remote; peer = c.peer; window = c.window; flags = c.flags; mark = 0 })
+  confirmed_booked c among =
+      let mv = move.Confirmed c in
+      let d = (sp mv among).does in
+      let to = d.takes.next.comes in
+      let state : state_number d.tunnel.control.state ≡ 2 = ap state_number d.state in
+      let early : state_number d.tunnel.control.state < 3 = omega (arith, state) in
+      let none = confirmation_none d.letter.body d.response d.said in
+      let no_again : (r : ℕ) → at_zero d.letter.body ≡ Opens r → ⊥ = (λ r z. (let two : Nobody why.Tunnel ≡ Opens r = sym none ∙ z in cc)) in
+      let no_stops : (r : ℕ) → at_zero d.letter.body ≡ Stops r → ⊥ = (λ r z. (let two : Nobody why.Tunnel ≡ Stops r = sym none ∙ z in cc)) in
+      let other : (result : ℕ) (error : Option ℕ) → Scccn d.response ≡ StopCcn 0 result error → ⊥ = (λ r x z. cc) in
+      let from = from_before mv among c.tunnel d.tunnel d.there d.current early d.letter to (Scccn d.response) d.said other no_again no_stops in
+      let behind_it = from_then mv among c.tunnel d.tunnel d.there d.current early d.letter to (Scccn d.response) d.said other no_again no_stops in
+      let e = was_early mv among c.tunnel d.tunnel d.there d.current early d.letter to (Scccn d.response) d.said other no_again no_stops in
+      let live = live_before mv among c.tunnel d.tunnel d.there d.current early d.letter to (Scccn d.response) d.said other no_again no_stops in
+      let fresh = early_state w h holds n c.tunnel e.tunnel live e.active e.early in
+      let led1 = led_there mv among in
+      let g1 = gs mv among in
+      let live1 = live_there mv among c.tunnel d.tunnel d.there d.current early d.letter to (Scccn d.response) d.said other no_again no_stops in
+      let accepted_then = waits_accepted led1.world g1 led1.amid.holds n c.tunnel d.tunnel live1 d.current early state in
+      let accepted : (h.accounts n c.tunnel 0).part ≡ Acceptor =
+      sym (part_before mv among c.tunnel d.tunnel d.there d.current early d.letter to (Scccn d.response) d.said other no_again no_stops) ∙ accepted_then in
+      let knows_then = knows_remote led1.world g1 led1.amid.holds n c.tunnel d.tunnel live1 d.current early accepted_then in
+      let both : ◌≡◌ {A = Sender} (record { node = from.from; tunnel = from.tunnel }) (record { node = behind_it.from; tunnel = behind_it.tunnel }) = (let two = sym from.sender_is ∙ behind_it.sender_is in cc) in
+      let tunnel_is : from.tunnel ≡ behind_it.tunnel = ap (λ (z : Sender). z.tunnel) both in
+      let back : (h.accounts n c.tunnel 0).remote ≡ from.tunnel = ⊎_elim (λ own. (let two : Opener ≡ Acceptor = sym (from.acceptor own) ∙ accepted in absurd cc)) (λ z. z) from.back in
+      let back_then : (g1.accounts n c.tunnel 0).remote ≡ behind_it.tunnel = ⊎_elim (λ own. (let two : Opener ≡ Acceptor = sym (behind_it.acceptor own) ∙ accepted_then in absurd cc)) (λ z. z) behind_it.back in
+      let remote_is : c.remote ≡ from.tunnel = d.remote ∙ (knows_then ∙ (back_then ∙ sym tunnel_is)) in
+      let partner : partner_in h.accounts 0 (h.accounts n c.tunnel 0) ≡ h.accounts from.from from.tunnel 0 = ap₂ (λ x y. h.accounts x y 0) from.back_peer back in
+      record {
+        made = from.made;
+        peer = d.peer ∙ (sym to.peer ∙ (from.address ∙ ap address_of (sym from.back_peer)));
+        remote = (let lt = from.some in omega (arith, lt, remote_is));
+        knows = ByLetter (back ∙ sym remote_is);
+        learned = λ own. ap (λ (z : Account). z.remote) partner ∙ from.remote_is;
+        late = λ closed. (let two = sym fresh.0 ∙ closed in cc);
+      }
+
+  calls_bring : (b : Bool) (q : ℕ) → AllByRecursion (Brings (BookedOk h n)) (call_down b q)
+  calls_bring true q = (tt, tt)
+  calls_bring false q = tt
+
+  tunnels_bring : (b : Bool) (q : ℕ) → AllByRecursion (Brings (BookedOk h n)) (tunnel_down b q)
+  tunnels_bring true q = (tt, tt)
+  tunnels_bring false q = tt
+
+  marks_bring : (b : Bool) (q mark : ℕ) → AllByRecursion (Brings (BookedOk h n)) (mark_by b q mark)
+  marks_bring true q mark = (tt, tt)
+  marks_bring false q mark = tt
+
+  pub moves_bring : (m : Move) → Among m s.moves → AllByRecursion (Brings (BookedOk h n)) (records_of m)
+  unfolding records_of
+  moves_bring (move.Connected c) among = (connected_booked c among, tt)
+  moves_bring (move.Confirmed c) among = (confirmed_booked c among, tt)
+  moves_bring (move.FirstUp m) among = (tt, tt)
+  moves_bring (move.SecondUp m) among = (tt, tt)
+  moves_bring (move.EndTold m) among = calls_bring m.booked m.session
+  moves_bring (move.EndHeard m) among = calls_bring m.booked m.session
+  moves_bring (move.EndSilent m) among = calls_bring m.booked m.session
+  moves_bring (move.Closed m) among = tunnels_bring m.booked m.tunnel
+  moves_bring (move.ClosedBy m) among = tunnels_bring m.booked m.tunnel
+  moves_bring (move.Cleared i booked) among = tunnels_bring booked i
+  moves_bring (move.Forgot m) among = (tt, tt)
+  moves_bring (move.Froze m) among = marks_bring m.marked m.tunnel m.asked
+  moves_bring (move.ResetAttempting m) among = marks_bring m.marked m.tunnel m.draw
+  moves_bring m among = tt
 
   -- ---- the world in which they are told
 

@@ -67,8 +67,8 @@ pub mod Stepping
 mod Committing
 mod Refusing
 mod Sending
-mod Ending
-mod Wholly
 mod Records
 mod Earlier
 mod Cutting
+mod Ending
+mod Wholly
