@@ -1,13 +1,13 @@
 -- A step of a node, all of which was committed: what its moves lead to, and what it sends.
-use Rattle.std.proofs.Common.{◌⊎◌, ◌≡◌, inl, inr, ⊎_elim, ℕ, ◌+◌, ◌^◌, ◌<◌, ◌≤◌, Bool, true, false, List, [], ◌∷◌, ◌++◌, map, refl, sym, ap, ◌∙◌, subst, Option, Some, None, arith, append-nil, append_assoc, ap₂, Ok}
+use Rattle.std.proofs.Common.{◌⊎◌, ◌≡◌, inl, inr, ⊎_elim, ℕ, ◌+◌, ◌^◌, ◌<◌, ◌≤◌, Bool, true, false, List, [], ◌∷◌, ◌++◌, map, refl, sym, ap, ◌∙◌, subst, Option, Some, None, arith, append-nil, append_assoc, ap₂, Ok, take}
 use Rattle.std.proofs.lemmas.Bool.{true≢false, eqb-true}
-use Rattle.std.specs.Prelude.{is_some, if◌then◌else◌, ◌==◌, ◌&&◌}
+use Rattle.std.specs.Prelude.{is_some, if◌then◌else◌, ◌==◌, ◌&&◌, unwrap_or}
 use Rattle.std.specs.List.{AllByRecursion}
 use Rattle.id_source.specs.Spaces.{draw_is}
-use Rattle.id_table.specs.Ids.{at}
+use Rattle.id_table.specs.Ids.{at, put, ids_of, at-none}
 use Rattle.id_table.specs.Order.{Ascends, at_new, at_other, same_or_not}
 use Rattle.recv_window.specs.Window.{ClassIsTrue}
-use Rattle.session_book.specs.Books.{tunnel_at}
+use Rattle.session_book.specs.Books.{tunnel_at, Kept}
 use Rattle.tunnel_fsm.specs.Rows.{state_number}
 use Rattle.end_names.specs.Names.{address_of, node_of}
 use Rattle.end_model.specs.declared.event.Event.{Event}
@@ -32,7 +32,7 @@ use Rattle.end_model.specs.Tunnels.{Tunnel, mode_of, is_current}
 use Rattle.end_model.specs.End.{End, Stepped, plain_step}
 use Rattle.world_model.specs.declared.packet.Packet.{Packet}
 use Rattle.world_model.specs.declared.standing.Standing.{Standing}
-use Rattle.world_model.specs.World.{World, Node, Checkpoint, Sender, Deed, IsWhole, standing_of, answer_in, epoch_of, with_node, block_of, commits, deed_of, moved_all, epoch_sent, packet_from, sent, shown, shown_all}
+use Rattle.world_model.specs.World.{World, Node, Checkpoint, Sender, Deed, IsWhole, standing_of, answer_in, epoch_of, with_node, block_of, commits, deed_of, moved_all, epoch_sent, packet_from, sent, shown, shown_all, no_standing, IsCut, fallen, without_held, cut_line}
 use Rattle.step_laws.specs.Arrivals.{Came, ComesTo, IsAgain, IsStop}
 use Rattle.step_laws.specs.Letters.{Among, Carries}
 use Rattle.step_laws.specs.Moves.{Does, Chain}
@@ -41,11 +41,15 @@ use Rattle.step_laws.specs.Ups.{most_reads, ReadsAreFew}
 use Rattle.frame_laws.specs.Codecs.{Codecs}
 use Rattle.frame_laws.proofs.Chains.{moved_more}
 use Rattle.frame_laws.proofs.Deeds.{all_behind}
-use Rattle.book_laws.proofs.Lists.{and_left, and_right}
-use Rattle.book_laws.specs.Books.{booked_control, tunnel_record, IsBook, Fits, StepIsBooked, StepsAreBooked}
+use Rattle.book_laws.proofs.Lists.{and_left, and_right, all_found, entry_found}
+use Rattle.book_laws.specs.Books.{booked_control, tunnel_record, IsBook, Fits, StepIsBooked, StepsAreBooked, book_after}
 use Rattle.node_laws.specs.Nodes.{HoldsUp}
+use Rattle.std.proofs.lemmas.Option.{none-some}
+use Rattle.session_book.specs.declared.record.BookTunnel.{BookTunnel}
+use Rattle.connection_laws.proofs.Hearing.{same_address}
+use Rattle.channel_laws.proofs.Resting.{Rests, after_loss, put_holds, same_holds}
 use Rattle.channel_laws.specs.Accounts.{Part, Unmade, Opener, Acceptor, Renewed, History, after, history_from, Account, about, entered_by}
-use Rattle.channel_laws.specs.Facts.{IsMade, EndOk, BookOk, NodeOk, PacketOk, Holds, partner_in, ByLetter, ByRecord, BookedOk, LiveOk}
+use Rattle.channel_laws.specs.Facts.{IsMade, EndOk, BookOk, NodeOk, PacketOk, Holds, partner_in, ByLetter, ByRecord, BookedOk, LiveOk, KnowsBy}
 use Rattle.channel_laws.specs.Lines.{AreSame, Finds, ComesIn}
 use Rattle.channel_laws.specs.Recoveries.{WrittenIsRead, WrittenHasRoom}
 use Rattle.channel_laws.specs.Steps.{Comes, Keeps}
@@ -54,15 +58,15 @@ use Rattle.channel_laws.proofs.Agreeing.{Agree, agree_on, put_agrees, chain_epoc
 use Rattle.channel_laws.proofs.Arriving.{comes_first}
 use Rattle.channel_laws.proofs.Budgets.{Below, active_first}
 use Rattle.channel_laws.proofs.Coming.{FromTunnel}
-use Rattle.channel_laws.proofs.Committing.{whole_book}
+use Rattle.channel_laws.proofs.Committing.{whole_book, cut_book, front_in_place}
 use Rattle.channel_laws.proofs.Cutting.{IsFrom, is_from, replies, sent_by, early_state, waits_accepted, knows_remote}
 use Rattle.channel_laws.proofs.Earlier.{PartOf, SamePart, FirstPart, RenewedPart, part_of, part_after, made_along, attempts_along, answers_along}
-use Rattle.channel_laws.proofs.Linked.{renewed_of}
+use Rattle.channel_laws.proofs.Linked.{renewed_of, part_cases, opener_of}
 use Rattle.channel_laws.proofs.Main.{used_once}
 use Rattle.channel_laws.proofs.Naming.{reply_answers}
 use Rattle.channel_laws.proofs.Nearness.{confirmation_none}
 use Rattle.channel_laws.proofs.Numbering.{IsActive, IsFirst, Counted, Stays, Takes, Reads, Begins, Resets, does_count}
-use Rattle.channel_laws.proofs.Records.{Brings}
+use Rattle.channel_laws.proofs.Records.{Brings, all_after, contents_bring, ceilings_rise, booked_like}
 use Rattle.channel_laws.proofs.Inactive.{IsInactive}
 use Rattle.channel_laws.proofs.Looks.{SameLook, CountAlike, same_look, look_back, look_on, all_look, looks_so, count_alike, end_agrees, node_agrees, packets_agree, holds_agrees}
 use Rattle.channel_laws.proofs.Mailing.{with_mail, mail_alike, all_joined}
@@ -79,6 +83,33 @@ pub record StepLaws : Type 0 where
   pub booked : StepsAreBooked
   pub again : WrittenIsRead
   pub has_room : WrittenHasRoom
+
+-- two tunnels of a node that books have, and that have the same other end, are one
+module _ (w : World) (h : History) (holds : Holds w h) (n : ℕ) where
+  booked_back : (b : BookTunnel) → BookedOk h n b → (h.accounts (h.accounts n b.local 0).peer b.remote 0).remote ≡ b.local
+  booked_back b ok = by ok.knows
+    where
+      a : Account
+      a = h.accounts n b.local 0
+
+      by : KnowsBy h.accounts n b.local b.remote → (h.accounts (h.accounts n b.local 0).peer b.remote 0).remote ≡ b.local
+      by (ByLetter same) =
+          let some = ok.remote in
+          subst (λ r. (h.accounts (h.accounts n b.local 0).peer r 0).remote ≡ b.local) same
+          (⊎_elim
+          (λ (own : (h.accounts n b.local 0).part ≡ Opener).
+          (opener_of w h n b.local 0 (h.accounts n b.local 0) (holds.accounts n b.local 0) own).1.remote (λ z. (let no : ⊥ = omega (arith, z, same, some) in no)))
+          (λ k. ⊎_elim
+          (λ (own : (h.accounts n b.local 0).part ≡ Acceptor). ok.learned own)
+          (λ (own : (h.accounts n b.local 0).part ≡ Renewed). let lt = (renewed_of w h n b.local 0 (h.accounts n b.local 0) (holds.accounts n b.local 0) own).later in absurd (omega (arith, lt)))
+          k)
+          (part_cases (h.accounts n b.local 0).part ok.made))
+      by (ByRecord part none acceptor peer remote) = remote
+
+  one_of_two : (b c : BookTunnel) → BookedOk h n b → BookedOk h n c → b.peer ≡ c.peer → b.remote ≡ c.remote → b.local ≡ c.local
+  one_of_two b c one two peers remotes =
+      let nodes : (h.accounts n b.local 0).peer ≡ (h.accounts n c.local 0).peer = same_address _ _ (sym one.peer ∙ (peers ∙ two.peer)) in
+      sym (booked_back b one) ∙ (ap₂ (λ x y. (h.accounts x y 0).remote) nodes remotes ∙ booked_back c two)
 
 -- a tunnel isn't established, and neither frozen nor restored
 record WasEarly (x : End) (i : ℕ) : Type 0 where
@@ -548,6 +579,93 @@ module _ (laws : StepLaws) (any : (m : Move) → IsOfNoStart m → Keeps m) (cod
   moves_bring (move.Froze m) among = marks_bring m.marked m.tunnel m.asked
   moves_bring (move.ResetAttempting m) among = marks_bring m.marked m.tunnel m.draw
   moves_bring m among = tt
+
+  -- ---- where a stop cuts it off
+
+  module _ (kc : Checkpoint) (cut : commits c0 (contents_of e0 s) ≡ IsCut kc) where
+    some_records : (m : ℕ) × (kc.book ≡ book_after c0.book (take m (contents_of e0 s)))
+    some_records = cut_book c0 (contents_of e0 s) booked.in_place kc cut
+
+    booked_before : BookOk h n c0.book
+    booked_before = subst (λ (c : Checkpoint). BookOk h n c.book) (sym finds.checkpoint) both_ok.1
+
+    all_cut : AllByRecursion (BookedOk h n) kc.book.tunnels
+    all_cut =
+        subst (λ (b : Kept). AllByRecursion (BookedOk h n) b.tunnels) (sym some_records.1)
+        (all_after (BookedOk h n) (λ a b local peer remote ok. booked_like h n a b local peer remote ok) c0.book (take some_records.0 (contents_of e0 s))
+        (all_found (λ (b : BookTunnel). b.local) (BookedOk h n) c0.book.tunnels book0.mirrors.tunnels_rise (λ i b there. booked_before.tunnels i b there))
+        (contents_bring (BookedOk h n) (λ a b local peer remote ok. booked_like h n a b local peer remote ok) some_records.0 e0 s moves_bring))
+
+    book_cut : BookOk h n kc.book
+    book_cut = record {
+      tunnels = λ i b there. (entry_found (λ (t : BookTunnel). t.local) (BookedOk h n) i kc.book.tunnels b all_cut there).1;
+      apart = λ i j b c there too peers remotes.
+          (let one = entry_found (λ (t : BookTunnel). t.local) (BookedOk h n) i kc.book.tunnels b all_cut there in
+          let two = entry_found (λ (t : BookTunnel). t.local) (BookedOk h n) j kc.book.tunnels c all_cut too in
+          sym one.0 ∙ (one_of_two w h holds n b c one.1 two.1 peers remotes ∙ two.0));
+    }
+
+    ceiling_cut : c0.book.tunnel_ceiling ≤ kc.book.tunnel_ceiling
+    ceiling_cut =
+        subst (λ (b : Kept). c0.book.tunnel_ceiling ≤ b.tunnel_ceiling) (sym some_records.1)
+        (ceilings_rise c0.book (take some_records.0 (contents_of e0 s)) (front_in_place some_records.0 c0.book (contents_of e0 s) booked.in_place))
+
+    abbrev pub cut_node : Node
+    cut_node = fallen (block_of n number) e0 found kc
+
+    gone_unmade : (i : ℕ) → (h.accounts n i 0).part ≡ Unmade → at e0.tunnels i ≡ None
+    gone_unmade i unmade = by (at e0.tunnels i) refl
+      where
+        by : (o : Option Tunnel) → at e0.tunnels i ≡ o → o ≡ None
+        by None is = refl
+        by (Some t) is = absurd ((both_ok.0.live i t (subst (λ (q : End). at q.tunnels i ≡ Some t) finds.end is)).made unmade)
+
+    cut_rests : Rests h n old cut_node
+    unfolding fallen
+    cut_rests = record {
+      answers = finds.answers;
+      epochs = λ i. (after_loss e0 i (ids_of e0.tunnels) found.standings).0 ∙ ap (λ xs. (unwrap_or (at xs i) no_standing).epoch) finds.standings;
+      made = λ i. (after_loss e0 i (ids_of e0.tunnels) found.standings).1.0 ∙ ap (λ xs. (unwrap_or (at xs i) no_standing).made) finds.standings;
+      none = λ i unmade none. (after_loss e0 i (ids_of e0.tunnels) found.standings).1.1 (gone_unmade i unmade) ∙ (ap (λ xs. unwrap_or (at xs i) no_standing) finds.standings ∙ none);
+    }
+
+    above_cut : (i : ℕ) → i < old.end.tunnel_ids.next → i < kc.book.tunnel_ceiling + 1
+    above_cut i lt =
+        let drawn = up.fit.tunnel_ids.drawn in
+        let alike = up.book.tunnel_ceiling in
+        let kept = ap (λ (c : Checkpoint). c.book.tunnel_ceiling) finds.checkpoint in
+        let rises = ceiling_cut in
+        omega (arith, lt, drawn, alike, kept, rises)
+
+    cut_ok : NodeOk (with_node w n cut_node) h n (Some cut_node)
+    unfolding fallen
+    cut_ok =
+        let e = both_ok.0 in
+        let ids = e.ids in
+        let alike = finds.end in (
+          record {
+            node = e.node;
+            number = ap (λ (q : End). q.config.number) alike ∙ e.number;
+            lns = λ lac. (let l = e.lns (ap (λ (q : End). q.role) (sym alike) ∙ lac) in (l.0, l.1, ap (λ (q : End). q.config.lns) alike ∙ l.2));
+            ids = record {
+              tunnels = λ i made. above_cut i (ids.tunnels i made);
+              attempts = λ a is. above_cut a (ids.attempts a is);
+              answers = λ c is. above_cut c (ids.answers c is);
+              no_attempt = ids.no_attempt;
+              no_answer = ids.no_answer;
+              one = ids.one;
+            };
+            live = λ i t there. absurd (none-some t (sym (at-none i) ∙ there));
+            apart = λ i j t u there too. absurd (none-some t (sym (at-none i) ∙ there));
+          },
+          book_cut,
+        )
+
+    pub cut_holds : Holds (cut_line base number n found kc).world h
+    unfolding cut_line
+    cut_holds =
+        let v = with_node w n cut_node in
+        same_holds v (without_held (with_node base n cut_node) n) h (put_holds w h n old cut_node was holds cut_rests cut_ok) (ap (λ ns. put ns n cut_node) same.nodes) same.packets
 
   -- ---- the world in which they are told
 

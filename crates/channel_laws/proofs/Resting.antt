@@ -175,7 +175,7 @@ module _ (e : End) (i : ℕ) where
       (ap (λ (s : Standing). s.epoch) there, (ap (λ (s : Standing). s.made) there, λ none. there)))
       (same_or_not i j)
 
-  after_loss : (is : List ℕ) (xs : List (ℕ × Standing)) → ((kept_at (loses_counts e is xs) i).epoch ≡ (kept_at xs i).epoch)
+  pub after_loss : (is : List ℕ) (xs : List (ℕ × Standing)) → ((kept_at (loses_counts e is xs) i).epoch ≡ (kept_at xs i).epoch)
       × (((kept_at (loses_counts e is xs) i).made ≡ (kept_at xs i).made) × (at e.tunnels i ≡ None → kept_at (loses_counts e is xs) i ≡ kept_at xs i))
   unfolding loses_counts
   after_loss [] xs = (refl, (refl, λ none. refl))
