@@ -14,8 +14,8 @@ use Rattle.channel_laws.specs.Accounts.{History, history_from}
 use Rattle.channel_laws.specs.Facts.{NodesHold, Holds}
 use Rattle.channel_laws.specs.Lines.{AreHands, WholeStep}
 use Rattle.channel_laws.specs.Steps.{Keeps}
-use Rattle.channel_laws.specs.Whole.{IsAlong, NoMove, OneMore, Below, CountAlike, SameLook, LeadsIn, KnowsAlong, WholeKept, WholeStepsKeep}
-use Rattle.channel_laws.proofs.Ending.{StepLaws, w2, h1, IsLed, all, holds2, below1, alike2, others2}
+use Rattle.channel_laws.specs.Whole.{IsAlong, NoMove, OneMore, Below, CountAlike, SameLook, LeadsIn, KnowsAlong, WholeKept, WholeStepsKeep, Leads, KnowsFrom, CutWhileUp, CutStepsKeep}
+use Rattle.channel_laws.proofs.Ending.{StepLaws, w2, h1, IsLed, all, holds2, below1, alike2, others2, cut_holds}
 use Rattle.channel_laws.proofs.Moving.{Kinds, each_keeps}
 use Rattle.channel_laws.proofs.Still.{same_history, nothing_by}
 
@@ -89,3 +89,28 @@ module _ (laws : StepLaws) (kinds : Kinds) (codecs : Codecs) (classes : ClassIsT
 
 pub whole_steps_keep : StepLaws → Kinds → Codecs → ClassIsTrue → WholeStepsKeep
 whole_steps_keep laws kinds codecs classes w h number x s most nodes holds had room known = whole_kept laws kinds codecs classes w h number x s most nodes holds had room known
+
+-- ---- a step that a stop cuts off
+
+module _ (laws : StepLaws) (kinds : Kinds) (codecs : Codecs) (classes : ClassIsTrue) (w : World) (h : History) (number : ℕ) (x : Lined) (s : CutWhileUp w number x) (most : ℕ)
+    (nodes : NodesHold w) (holds : Holds w h) (had : Below h most) (room : most + 147460 < 2 ^ 64)
+    (known : KnowsFrom w h s.node s.sender s.found.clock (uncovered_event s.found.end.config.secret s.event)) where
+  abbrev Made : World → History → List Move → Type 0
+  Made v g made = Leads s.node s.sender s.found.clock (uncovered_event s.found.end.config.secret s.event) w h made v g
+
+  led_so : IsAlong Made s.node s.sender s.found.clock (uncovered_event s.found.end.config.secret s.event)
+  led_so = record {
+    knows = λ v g made ok j. known made v g j ok;
+    moves = λ v g made node m y d start moved j ok. OneMore made v g node m y d start j moved;
+  }
+
+  cut_kept : Holds x.world (history_from x.done h)
+  unfolding history_from
+  cut_kept =
+      subst (λ ds. Holds x.world (history_from ds h)) (sym s.done)
+      (subst (λ v. Holds v h) (sym s.world)
+      (cut_holds laws (λ m start. each_keeps kinds m start) codecs classes Made w h holds number s.node s.old s.was ((nodes s.node s.old s.was).up s.up) s.found s.finds s.base s.same s.event
+      s.sender s.comes led_so NoMove most had room s.found.checkpoint s.checkpoint s.cut))
+
+pub cut_steps_keep : StepLaws → Kinds → Codecs → ClassIsTrue → CutStepsKeep
+cut_steps_keep laws kinds codecs classes w h number x s most nodes holds had room known = cut_kept laws kinds codecs classes w h number x s most nodes holds had room known

@@ -1,16 +1,17 @@
 -- A whole step of a node: its moves, each made where those before it lead; what is committed then, and what is sent.
-use Rattle.std.specs.Prelude.{◌≡◌, ℕ, ◌+◌, ◌^◌, ◌<◌, ◌≤◌, List, [], ◌∷◌, ◌++◌, length, Option, Some, None}
+use Rattle.std.specs.Prelude.{◌≡◌, ℕ, ◌+◌, ◌^◌, ◌<◌, ◌≤◌, true, List, [], ◌∷◌, ◌++◌, length, Option, Some, None}
 use Rattle.id_table.specs.Ids.{at}
 use Rattle.end_model.specs.declared.event.Event.{Event}
 use Rattle.end_model.specs.declared.moves.Move.{Move}
+use Rattle.end_model.specs.Contents.{contents_of}
 use Rattle.end_model.specs.Secrets.{uncovered_event}
 use Rattle.end_model.specs.End.{End, Stepped, step}
-use Rattle.world_model.specs.World.{World, Node, Sender, Deed, Lined, standing_of, block_of}
+use Rattle.world_model.specs.World.{World, Node, Checkpoint, Sender, Deed, Lined, IsCut, standing_of, block_of, commits, cut_line}
 use Rattle.step_laws.specs.Steps.{IsOfNoStart}
 use Rattle.channel_laws.specs.Accounts.{History, after, history_from}
 use Rattle.channel_laws.specs.Facts.{makes, Holds, NodesHold}
 use Rattle.channel_laws.specs.Epochs.{EpochsKnown}
-use Rattle.channel_laws.specs.Lines.{WholeStep}
+use Rattle.channel_laws.specs.Lines.{AreSame, Finds, ComesIn, WholeStep}
 use Rattle.channel_laws.specs.Steps.{moves_on, IsMoved}
 
 -- what else is kept along the moves of a step: of the world and of what was done up to some move, and of the moves up to it. It tells what the channels
@@ -52,9 +53,13 @@ stepped_in w number x s = step s.found.end s.found.clock (block_of s.node number
 abbrev pub LeadsIn : (w : World) (h : History) (number : ℕ) (x : Lined) → WholeStep w number x → List Move → World → History → Type 0
 LeadsIn w h number x s = Leads s.node s.sender s.found.clock (uncovered_event s.found.end.config.secret s.event) w h
 
+-- wherever moves lead from a world, the epochs are known
+abbrev pub KnowsFrom : World → History → ℕ → Option Sender → ℕ → Event → Type 0
+KnowsFrom w h n sender moment ev = (made : List Move) (v : World) (g : History) → Leads n sender moment ev w h made v g → Holds v g → EpochsKnown v g
+
 -- before its moves, and after each of them, the epochs are known
 abbrev pub KnowsAlong : (w : World) (h : History) (number : ℕ) (x : Lined) → WholeStep w number x → Type 0
-KnowsAlong w h number x s = (made : List Move) (v : World) (g : History) → LeadsIn w h number x s made v g → Holds v g → EpochsKnown v g
+KnowsAlong w h number x s = KnowsFrom w h s.node s.sender s.found.clock (uncovered_event s.found.end.config.secret s.event)
 
 -- what it leaves: all holds again, and no channel was given more than 81,919 letters more than any was before. All its moves lead to a world
 -- in which its node has the end that the step leaves, and still the checkpoint that it had before; what is kept of tunnels and answers, and each
@@ -75,3 +80,29 @@ pub record WholeKept (w : World) (h : History) (number : ℕ) (x : Lined) (s : W
 abbrev pub WholeStepsKeep : Type 0
 WholeStepsKeep = (w : World) (h : History) (number : ℕ) (x : Lined) (s : WholeStep w number x) (most : ℕ) → NodesHold w → Holds w h → Below h most → most + 147460 < 2 ^ 64
     → KnowsAlong w h number x s → WholeKept w h number x s most
+
+-- ---- a step that a stop cuts off
+
+-- a step of a node that is up, of whose records a stop leaves the first ones: the node falls, and nothing is done. Here it is told what came in, which
+-- Lines' CutStep doesn't tell
+pub record CutWhileUp (w : World) (number : ℕ) (x : Lined) : Type 0 where
+  pub node : ℕ
+  pub old : Node
+  pub was : at w.nodes node ≡ Some old
+  pub up : old.up ≡ true
+  pub found : Node
+  pub finds : Finds old found
+  pub base : World
+  pub same : AreSame w base
+  pub event : Event
+  pub sender : Option Sender
+  pub comes : ComesIn w node old event sender
+  pub checkpoint : Checkpoint
+  pub cut : commits found.checkpoint (contents_of found.end (step found.end found.clock (block_of node number) event)) ≡ IsCut checkpoint
+  pub world : x.world ≡ (cut_line base number node found checkpoint).world
+  pub done : x.done ≡ []
+
+-- all holds again, of the book that is left too: each tunnel that a record brought into it was known by what had been sent before the step
+abbrev pub CutStepsKeep : Type 0
+CutStepsKeep = (w : World) (h : History) (number : ℕ) (x : Lined) (s : CutWhileUp w number x) (most : ℕ) → NodesHold w → Holds w h → Below h most → most + 147460 < 2 ^ 64
+    → KnowsFrom w h s.node s.sender s.found.clock (uncovered_event s.found.end.config.secret s.event) → Holds x.world (history_from x.done h)

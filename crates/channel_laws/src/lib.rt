@@ -11,7 +11,7 @@ ghost use Rattle.recv_window.specs.Window.{ClassIsTrue};
 ghost use Rattle.book_laws.specs.Books.{StepsAreBooked};
 ghost use Rattle.step_laws.specs.Steps.{StepsAreChains, StepsAreNoStarts};
 ghost use Rattle.step_laws.specs.Ups.{ReadsAreFew};
-ghost use Rattle.channel_laws.specs.Whole.{WholeStepsKeep};
+ghost use Rattle.channel_laws.specs.Whole.{CutStepsKeep, WholeStepsKeep};
 
 /// The laws that are used.
 fn laws_below()
@@ -110,6 +110,22 @@ pub fn beginning_moves_keep()
 /// left only in packets, births and the node's checkpoint.
 pub fn whole_steps_keep()
     ensures { WholeStepsKeep }
+{
+    laws_below();
+    laws_of_steps();
+    still_moves_keep();
+    recoveries_keep();
+    giving_moves_keep();
+    opening_moves_keep();
+    taking_moves_keep();
+    beginning_moves_keep();
+}
+
+/// A step of a node that is up, which a stop cuts off amid its records, keeps what holds of channels over crashes: nothing is done, and each
+/// tunnel that a record brought into the book was known by what had been sent before the step; as long as the epochs of linked ends are known wherever
+/// the moves of the step would lead.
+pub fn cut_steps_keep()
+    ensures { CutStepsKeep }
 {
     laws_below();
     laws_of_steps();
