@@ -3,6 +3,7 @@ mod Told
 mod Reached
 mod Linked
 mod Heard
+mod Frames
 pub mod Lines
 pub mod Growing
 pub mod Resting

@@ -23,7 +23,8 @@ use Rattle.world_model.specs.Texts.{Entry, Frames, Drops}
 use Rattle.world_model.specs.World.{World, Node, Checkpoint, Sender, Lined, quiet_line, with_node, shown, entries_of, entry_of, given, after_step, with_stop, fallen, without_held, cut_line, declared, lac_at, lns_at, down_at, with_call, with_tunnel, later, new_node, added, block_of, stepped, sender_of, held_line, taken_up, behind_hand, hand_deed, answer_entries, crashed, armed, opened, started, line}
 use Rattle.step_laws.specs.Gone.{gone_in}
 use Rattle.step_laws.specs.Lines.{tested_not, is_running, is_lac_at, is_lns_at, is_down_at, has_call, has_tunnel, IsAt, is_at, at_moment, is_later, none_there, committed_line, step_line, deliver_line, load_line, hand_line}
-use Rattle.step_laws.specs.Hosts.{LacAt, with_host, entering, reply_to, HostDoes, HostSends, HostLeaves, OfFrame, frame_line}
+use Rattle.step_laws.specs.Hosts.{LacAt, with_host, entering, reply_to, HostDoes, HostSends, HostLeaves}
+use Rattle.channel_laws.proofs.Frames.{OfFrame, frame_line}
 use Rattle.channel_laws.specs.Lines.{gone_by, gone_told, of_node, AreSame, Finds, AreHands, IsNoDatagram, ComesIn, OfPacket, OfItself, LineDoes, Nothing, ANode, Arms, Falls, Steps, Cuts, Starts, LinesDo}
 
 -- ---- what is told as gone
@@ -145,7 +146,7 @@ module _ (w : World) (number : ℕ) where
           base = base;
           same = same;
           stepped = step q.end q.clock (block_of n number) ev;
-          of = inl (was_up, (ev, refl));
+          of = inl (was_up, (ev, sender, comes, refl));
           checkpoint = k;
           cut = cut;
           world = ap (λ (l : Lined). l.world) (same_line ∙ sym made);
@@ -217,37 +218,17 @@ module _ (w : World) (number : ℕ) where
         (OfItself tt refl) x h (record x { entries = x.entries ++ Frames number n (reply_to w number n l src asked) ∷ [] })
         (record { world = refl; hands = ([], (inl refl, refl)); told = inl (gone_both x.entries _ ∙ none_behind (gone_told x.entries)) })
         (λ off. absurd (true≢false (sym off ∙ u)));
-    cut = λ l ev node is x h c. cut_so n l node is ev x h c;
+    cut = λ l ev node is up none x h c. cut_so n l node is up ev none x h c;
   }
     where
       answers_none : (because : Option _) (frame : List ℕ) → gone_told (answer_entries number n because frame) ≡ []
       answers_none None frame = refl
       answers_none (Some c) frame = refl
 
-      cut_so : (n : ℕ) (l : LacAt w n) (node : Node) → IsAt w n node → (ev : Event) (x : Lined) → stepped w number n ev None (Ok node) ≡ Ok x → x.cut ≡ true → LineDoes w number x
-      cut_so n l node is ev x h c = step_line (LineDoes w number x) w number x n ev None (Ok node)
-          (λ q e k whole made. absurd (true≢false (sym c ∙ was_whole w number n (record q { checkpoint = k }) (step q.end q.clock (block_of n number) ev) x made)))
-          (λ q e k cut made.
-          let one : node ≡ q = cc in
-          let both : Some is.before ≡ Some l.node = sym is.there ∙ l.there in
-          let same : is.before ≡ l.node = cc in
-          Cuts (record {
-            node = n;
-            old = is.before;
-            was = is.there;
-            found = q;
-            finds = subst (Finds is.before) one (finds_at w n node is);
-            base = w;
-            same = same_world w;
-            stepped = step q.end q.clock (block_of n number) ev;
-            of = inl (ap (λ (z : Node). z.up) same ∙ l.up, (ev, refl));
-            checkpoint = k;
-            cut = cut;
-            world = ap (λ (y : Lined). y.world) (sym made);
-            done = ap (λ (y : Lined). y.done) (sym made) ∙ cut_done w number n q k;
-            told = ap (λ (y : Lined). gone_told y.entries) (sym made) ∙ cut_told w number n q k;
-          }))
-          h
+      cut_so : (n : ℕ) (l : LacAt w n) (node : Node) → IsAt w n node → node.up ≡ true → (ev : Event) → IsNoDatagram ev → (x : Lined) → stepped w number n ev None (Ok node) ≡ Ok x
+          → x.cut ≡ true → LineDoes w number x
+      cut_so n l node is up ev none x h c = stepped_so w (same_world w) n node is up ev None (OfItself none refl) x h x
+          (record { world = refl; hands = ([], (inl refl, refl)); told = inl refl }) (λ off. refl)
 
   -- ---- lines
 

@@ -103,7 +103,8 @@ pub record CutStep (w : World) (number : ℕ) (x : Lined) : Type 0 where
   pub same : AreSame w base
   pub stepped : Stepped
   -- it is a step of a node that is up, or the start of one that is down
-  pub of : ((old.up ≡ true) × ((event : Event) × (stepped ≡ step found.end found.clock (block_of node number) event)))
+  pub of : ((old.up ≡ true)
+      × ((event : Event) × (sender : Option Sender) × ComesIn w node old event sender × (stepped ≡ step found.end found.clock (block_of node number) event)))
       ⊎ ((old.up ≡ false) × (stepped ≡ starts old.end.role old.end.config old.checkpoint.book old.clock (block_of node number)))
   pub checkpoint : Checkpoint
   pub cut : commits found.checkpoint (contents_of found.end stepped) ≡ IsCut checkpoint

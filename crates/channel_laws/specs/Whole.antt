@@ -3,15 +3,14 @@ use Rattle.std.specs.Prelude.{◌≡◌, ℕ, ◌+◌, ◌^◌, ◌<◌, ◌≤�
 use Rattle.id_table.specs.Ids.{at}
 use Rattle.end_model.specs.declared.event.Event.{Event}
 use Rattle.end_model.specs.declared.moves.Move.{Move}
-use Rattle.end_model.specs.Contents.{contents_of}
 use Rattle.end_model.specs.Secrets.{uncovered_event}
 use Rattle.end_model.specs.End.{End, Stepped, step}
-use Rattle.world_model.specs.World.{World, Node, Checkpoint, Sender, Deed, Lined, IsCut, standing_of, block_of, commits, cut_line}
+use Rattle.world_model.specs.World.{World, Node, Sender, Deed, Lined, standing_of, block_of}
 use Rattle.step_laws.specs.Steps.{IsOfNoStart}
 use Rattle.channel_laws.specs.Accounts.{History, after, history_from}
 use Rattle.channel_laws.specs.Facts.{makes, Holds, NodesHold}
 use Rattle.channel_laws.specs.Epochs.{EpochsKnown}
-use Rattle.channel_laws.specs.Lines.{AreSame, Finds, ComesIn, WholeStep}
+use Rattle.channel_laws.specs.Lines.{ComesIn, WholeStep, CutStep}
 use Rattle.channel_laws.specs.Steps.{moves_on, IsMoved}
 
 -- what else is kept along the moves of a step: of the world and of what was done up to some move, and of the moves up to it. It tells what the channels
@@ -83,26 +82,10 @@ WholeStepsKeep = (w : World) (h : History) (number : ℕ) (x : Lined) (s : Whole
 
 -- ---- a step that a stop cuts off
 
--- a step of a node that is up, of whose records a stop leaves the first ones: the node falls, and nothing is done. Here it is told what came in, which
--- Lines' CutStep doesn't tell
-pub record CutWhileUp (w : World) (number : ℕ) (x : Lined) : Type 0 where
-  pub node : ℕ
-  pub old : Node
-  pub was : at w.nodes node ≡ Some old
-  pub up : old.up ≡ true
-  pub found : Node
-  pub finds : Finds old found
-  pub base : World
-  pub same : AreSame w base
-  pub event : Event
-  pub sender : Option Sender
-  pub comes : ComesIn w node old event sender
-  pub checkpoint : Checkpoint
-  pub cut : commits found.checkpoint (contents_of found.end (step found.end found.clock (block_of node number) event)) ≡ IsCut checkpoint
-  pub world : x.world ≡ (cut_line base number node found checkpoint).world
-  pub done : x.done ≡ []
-
--- all holds again, of the book that is left too: each tunnel that a record brought into it was known by what had been sent before the step
+-- of a node that is up: of its records a stop leaves the first ones. All holds again, of the book that is left too: each tunnel that a record brought into
+-- it was known by what had been sent before the step; as long as the epochs are known wherever the moves of the step would lead
 abbrev pub CutStepsKeep : Type 0
-CutStepsKeep = (w : World) (h : History) (number : ℕ) (x : Lined) (s : CutWhileUp w number x) (most : ℕ) → NodesHold w → Holds w h → Below h most → most + 147460 < 2 ^ 64
-    → KnowsFrom w h s.node s.sender s.found.clock (uncovered_event s.found.end.config.secret s.event) → Holds x.world (history_from x.done h)
+CutStepsKeep = (w : World) (h : History) (number : ℕ) (x : Lined) (s : CutStep w number x) (most : ℕ) → s.old.up ≡ true → NodesHold w → Holds w h → Below h most
+    → most + 147460 < 2 ^ 64
+    → ((event : Event) (sender : Option Sender) → ComesIn w s.node s.old event sender → KnowsFrom w h s.node sender s.found.clock (uncovered_event s.found.end.config.secret event))
+    → Holds x.world (history_from x.done h)

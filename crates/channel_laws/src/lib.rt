@@ -121,9 +121,9 @@ pub fn whole_steps_keep()
     beginning_moves_keep();
 }
 
-/// A step of a node that is up, which a stop cuts off amid its records, keeps what holds of channels over crashes: nothing is done, and each
-/// tunnel that a record brought into the book was known by what had been sent before the step; as long as the epochs of linked ends are known wherever
-/// the moves of the step would lead.
+/// A step of a node that is up, which a stop cuts off amid its records, keeps what holds of channels over crashes: nothing is done, and each tunnel
+/// that a record brought into the book was known by what had been sent before the step; as long as the epochs of linked ends are known wherever the
+/// moves of the step would lead.
 pub fn cut_steps_keep()
     ensures { CutStepsKeep }
 {

@@ -20,12 +20,12 @@ use Rattle.end_model.specs.Moments.{is_open}
 use Rattle.end_model.specs.Tunnels.{Tunnel}
 use Rattle.end_model.specs.End.{End, Stepped, plain_step, step}
 use Rattle.end_model.specs.Starting.{starts}
-use Rattle.world_model.specs.World.{World, Node, Checkpoint, Lined, IsCut, IsWhole, recorded, recorded_all, commits, block_of}
+use Rattle.world_model.specs.World.{World, Node, Checkpoint, Sender, Lined, IsCut, IsWhole, recorded, recorded_all, commits, block_of}
 use Rattle.step_laws.specs.Steps.{StepsAreChains, AreKept}
 use Rattle.book_laws.specs.Books.{tunnel_record, booked_control, Mirrors, book_after, StepsAreBooked}
 use Rattle.book_laws.proofs.Lists.{filter_rises, put_rises, entry_put_other, entry_has, passing, entry_filter, entry_map}
 use Rattle.node_laws.specs.Nodes.{HoldsNode, NodesOfRuns, LeavesNoneOut, RecordsOfRuns}
-use Rattle.channel_laws.specs.Lines.{WholeStep, WholeStart, LinesDo}
+use Rattle.channel_laws.specs.Lines.{ComesIn, WholeStep, WholeStart, LinesDo}
 use Rattle.recovery_laws.specs.Marks.{HasMark, InItsEnd, InItsBook, MarksStay, MarksNeverFall}
 use Rattle.recovery_laws.proofs.Established.{IsPast, chain_past, NotUp, contents_not_up}
 use Rattle.recovery_laws.proofs.Nodes.{IsCommitted, whole_has, whole_all, cut_has, no_cut, Goes, AsItWas, IsNew, ByStep, ByCut, ByFall, ByStart, node_goes, NoneIsArmed, none_is_armed}
@@ -316,10 +316,11 @@ module _ (chains : StepsAreChains) (booked : StepsAreBooked) (w : World) (nodes 
       cut = sym (ap (λ (q : Checkpoint). commits q (contents_of k.old.end k.stepped)) k.finds.checkpoint)
           ∙ (sym (ap (λ (q : End). commits k.found.checkpoint (contents_of q k.stepped)) k.finds.end) ∙ k.cut)
 
-      by : ((k.old.up ≡ true) × ((event : Event) × (k.stepped ≡ step k.found.end k.found.clock (block_of k.node number) event)))
+      by : ((k.old.up ≡ true)
+          × ((event : Event) × (sender : Option Sender) × ComesIn w k.node k.old event sender × (k.stepped ≡ step k.found.end k.found.clock (block_of k.node number) event)))
           ⊎ ((k.old.up ≡ false) × (k.stepped ≡ starts k.old.end.role k.old.end.config k.old.checkpoint.book k.old.clock (block_of k.node number)))
           → b.mark ≤ c.mark
-      by (inl (is_up, (event, is))) =
+      by (inl (is_up, (event, sender, comes, is))) =
           let s : k.stepped ≡ step k.old.end k.found.clock (block_of k.node number) event = is ∙ ap (λ (q : End). step q k.found.clock (block_of k.node number) event) k.finds.end in
           let apart = subst (λ (q : Stepped). AllByRecursion (NotUp i) (contents_of k.old.end q)) (sym s)
           (step_apart k.node k.old k.was is_up i b there k.found.clock (block_of k.node number) event) in
