@@ -73,3 +73,4 @@ mod Earlier
 mod Cutting
 mod Ending
 mod Wholly
+mod EachLine

@@ -23,7 +23,7 @@ use Rattle.channel_laws.proofs.Moving.{Kinds, each_keeps}
 use Rattle.channel_laws.proofs.Still.{same_history, nothing_by}
 
 -- a frame that was held is of no account
-hands_keep : (number : ℕ) (hs ds : List Deed) (h : History) → AreHands number hs → history_from (hs ++ ds) h ≡ history_from ds h
+pub hands_keep : (number : ℕ) (hs ds : List Deed) (h : History) → AreHands number hs → history_from (hs ++ ds) h ≡ history_from ds h
 unfolding history_from
 hands_keep number hs ds h (inl none) = ap (λ l. history_from (l ++ ds) h) none
 hands_keep number hs ds h (inr one) =

@@ -10,7 +10,7 @@ use Rattle.step_laws.specs.Steps.{IsOfNoStart}
 use Rattle.channel_laws.specs.Accounts.{History, after, history_from}
 use Rattle.channel_laws.specs.Facts.{makes, Holds, NodesHold}
 use Rattle.channel_laws.specs.Epochs.{EpochsKnown}
-use Rattle.channel_laws.specs.Lines.{ComesIn, WholeStep, CutStep}
+use Rattle.channel_laws.specs.Lines.{Finds, ComesIn, WholeStep, CutStep, LineDoes, Nothing, ANode, Arms, Falls, Steps, Cuts, Starts}
 use Rattle.channel_laws.specs.Steps.{moves_on, IsMoved}
 
 -- what else is kept along the moves of a step: of the world and of what was done up to some move, and of the moves up to it. It tells what the channels
@@ -89,3 +89,24 @@ CutStepsKeep = (w : World) (h : History) (number : ℕ) (x : Lined) (s : CutStep
     → most + 147460 < 2 ^ 64
     → ((event : Event) (sender : Option Sender) → ComesIn w s.node s.old event sender → KnowsFrom w h s.node sender s.found.clock (uncovered_event s.found.end.config.secret event))
     → Holds x.world (history_from x.done h)
+
+-- ---- any line but a start
+
+-- in it no node that is down starts
+abbrev pub StartsNone : {w : World} {number : ℕ} {x : Lined} → LineDoes w number x → Type 0
+StartsNone (Nothing same hands none) = Unit {0}
+StartsNone (ANode n role lns secret hide lt to fresh world done none) = Unit {0}
+StartsNone (Arms k s world done none) = Unit {0}
+StartsNone (Falls k world done none) = Unit {0}
+StartsNone (Steps k) = Unit {0}
+StartsNone (Cuts k) = k.old.up ≡ true
+StartsNone (Starts k) = ⊥
+
+-- wherever the moves of a step would lead, whichever node makes it, and on whatever comes in, the epochs are known
+abbrev pub KnowsOfLine : World → History → Type 0
+KnowsOfLine w h = (n : ℕ) (old found : Node) (event : Event) (sender : Option Sender) → at w.nodes n ≡ Some old → Finds old found → ComesIn w n old event sender
+    → KnowsFrom w h n sender found.clock (uncovered_event found.end.config.secret event)
+
+abbrev pub LinesKeep : Type 0
+LinesKeep = (w : World) (h : History) (number : ℕ) (x : Lined) (most : ℕ) → NodesHold w → Holds w h → Below h most → most + 147460 < 2 ^ 64 → (does : LineDoes w number x)
+    → StartsNone does → KnowsOfLine w h → Holds x.world (history_from x.done h) × Below (history_from x.done h) (most + 81919)

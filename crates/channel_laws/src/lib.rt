@@ -11,7 +11,7 @@ ghost use Rattle.recv_window.specs.Window.{ClassIsTrue};
 ghost use Rattle.book_laws.specs.Books.{StepsAreBooked};
 ghost use Rattle.step_laws.specs.Steps.{StepsAreChains, StepsAreNoStarts};
 ghost use Rattle.step_laws.specs.Ups.{ReadsAreFew};
-ghost use Rattle.channel_laws.specs.Whole.{CutStepsKeep, WholeStepsKeep};
+ghost use Rattle.channel_laws.specs.Whole.{CutStepsKeep, LinesKeep, WholeStepsKeep};
 
 /// The laws that are used.
 fn laws_below()
@@ -126,6 +126,22 @@ pub fn whole_steps_keep()
 /// moves of the step would lead.
 pub fn cut_steps_keep()
     ensures { CutStepsKeep }
+{
+    laws_below();
+    laws_of_steps();
+    still_moves_keep();
+    recoveries_keep();
+    giving_moves_keep();
+    opening_moves_keep();
+    taking_moves_keep();
+    beginning_moves_keep();
+}
+
+/// Each line of the grammar that fits keeps what holds of channels over crashes, in which no node that is down starts: also one in which a node falls, a
+/// stop is armed, or a step is cut off; as long as the epochs of linked ends are known wherever the moves of a step lead, and no channel was given
+/// nearly 2^64 letters.
+pub fn lines_keep()
+    ensures { LinesKeep }
 {
     laws_below();
     laws_of_steps();
