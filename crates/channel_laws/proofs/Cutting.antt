@@ -1,49 +1,30 @@
 -- What a message tells of the tunnel that sent it, where it names a tunnel; and what is known of a tunnel that isn't established.
-use Rattle.std.proofs.Common.{◌≡◌, ◌⊎◌, inl, inr, ⊎_elim, ℕ, ◌+◌, ◌^◌, ◌<◌, ◌≤◌, Bool, true, false, List, [], ◌∷◌, ◌++◌, map, refl, sym, ap, ap₂, ◌∙◌, subst, Option, Some, None, Ok, arith, append-nil, append_assoc}
-use Rattle.std.proofs.lemmas.Bool.{true≢false, eqb-true, eqb-false}
-use Rattle.std.specs.Prelude.{slice_get, is_some, ◌==◌, ◌&&◌, if◌then◌else◌}
-use Rattle.std.specs.List.{AllByRecursion}
-use Rattle.id_source.specs.Spaces.{draw_is}
-use Rattle.id_table.specs.Ids.{at}
+use Rattle.std.proofs.Common.{◌≡◌, ◌⊎◌, inl, inr, ⊎_elim, ℕ, ◌<◌, ◌≤◌, true, List, [], refl, sym, ap, ap₂, ◌∙◌, subst, Option, Some, None, Ok, arith}
+use Rattle.std.specs.Prelude.{slice_get, is_some}
 use Rattle.l2tp_header.specs.Reading.{body_of}
 use Rattle.control_message.specs.declared.message.Message.{Message}
-use Rattle.control_message.specs.declared.message.Message.TheVariants.{Sccrq, Sccrp, Scccn, StopCcn}
+use Rattle.control_message.specs.declared.message.Message.TheVariants.{Sccrq, Sccrp, StopCcn}
 use Rattle.control_message.specs.declared.message.Opening.{Opening}
-use Rattle.session_book.specs.declared.record.BookTunnel.{BookTunnel}
 use Rattle.tunnel_fsm.specs.Rows.{state_number}
 use Rattle.end_names.specs.Names.{address_of}
 use Rattle.end_model.specs.declared.event.Event.{Event}
-use Rattle.end_model.specs.declared.event.Addressee.TheVariants.{Opens, Stops, Answers}
-use Rattle.end_model.specs.declared.moves.Connected.{Connected}
-use Rattle.end_model.specs.declared.moves.Confirmed.{Confirmed}
-use Rattle.end_model.specs.declared.moves.Move.{Move}
-use Rattle.end_model.specs.declared.moves.Move.TheVariants as move
-use Rattle.end_model.specs.Reading.{message_in, at_zero}
-use Rattle.end_model.specs.Secrets.{uncovered_event}
+use Rattle.end_model.specs.Reading.{message_in}
 use Rattle.end_model.specs.Tunnels.{Tunnel, mode_of, is_current}
 use Rattle.end_model.specs.End.{End}
-use Rattle.world_model.specs.World.{World, Node, Checkpoint, Sender, Deed, epoch_of}
-use Rattle.step_laws.specs.Arrivals.{Came, CameIn, ComesTo, IsFor, IsAgain, IsStop}
+use Rattle.world_model.specs.World.{World, Sender, epoch_of}
+use Rattle.step_laws.specs.Arrivals.{Came, CameIn}
 use Rattle.step_laws.specs.Letters.{Letter}
-use Rattle.step_laws.specs.Moves.{Does, Chain}
-use Rattle.step_laws.specs.Steps.{IsOfNoStart}
 use Rattle.frame_laws.specs.Codecs.{Codecs}
-use Rattle.frame_laws.proofs.Deeds.{all_behind}
-use Rattle.node_laws.specs.Nodes.{HoldsUp}
 use Rattle.connection_laws.specs.Facts.{IsNoOpening, AllWait}
 use Rattle.connection_laws.proofs.Alike.{read_same}
 use Rattle.connection_laws.proofs.Hearing.{no_message, first_only}
-use Rattle.channel_laws.specs.Accounts.{Part, Unmade, Opener, Acceptor, Renewed, Account, History, about, entered_by, history_from}
-use Rattle.channel_laws.specs.Facts.{IsMade, partner_in, IsOpen, IsShut, IsInState, IsOpener, IsAcceptor, IsRenewed, IsPart, KnowsBy, ByLetter, ByRecord, BookedOk, ChannelOk, LiveOk, EndOk, BookOk, NodeOk, Holds}
-use Rattle.channel_laws.specs.Lines.{AreSame, Finds, ComesIn}
+use Rattle.channel_laws.specs.Accounts.{Part, Unmade, Opener, Acceptor, Renewed, Account, History}
+use Rattle.channel_laws.specs.Facts.{IsMade, partner_in, IsOpen, IsShut, IsInState, IsRenewed, ChannelOk, LiveOk, Holds}
 use Rattle.channel_laws.specs.Recoveries.{WrittenIsRead, WrittenHasRoom}
-use Rattle.channel_laws.specs.Steps.{Comes, Keeps}
-use Rattle.channel_laws.specs.Whole.{IsAlong, Below}
+use Rattle.channel_laws.specs.Steps.{Comes}
 use Rattle.channel_laws.proofs.Coming.{FromTunnel, OfNoTunnel, OfRecovery, heard}
 use Rattle.channel_laws.proofs.Linked.{part_cases, opener_of, acceptor_of, renewed_of, first_or_later}
-use Rattle.channel_laws.proofs.Main.{used_once}
-use Rattle.channel_laws.proofs.Naming.{reply_answers, copy_names}
-use Rattle.channel_laws.proofs.Nearness.{confirmation_none}
+use Rattle.channel_laws.proofs.Naming.{copy_names}
 use Rattle.channel_laws.proofs.Readings.{IsLetterRead, IsNoneRead}
 use Rattle.channel_laws.proofs.Told.{all_at}
 

@@ -1,5 +1,5 @@
 -- Each line keeps what holds of channels, but a start.
-use Rattle.std.proofs.Common.{◌≡◌, ℕ, ◌+◌, ◌^◌, ◌<◌, ◌≤◌, List, [], ◌++◌, refl, sym, ap, ◌∙◌, subst, Option, arith, append-nil}
+use Rattle.std.proofs.Common.{◌≡◌, ℕ, ◌+◌, ◌^◌, ◌<◌, List, [], ◌++◌, sym, ap, ◌∙◌, subst, arith, append-nil}
 use Rattle.recv_window.specs.Window.{ClassIsTrue}
 use Rattle.world_model.specs.World.{World, Deed, Lined}
 use Rattle.frame_laws.specs.Codecs.{Codecs}

@@ -1,12 +1,12 @@
 -- What the moves of a step add to what was done before: no tunnel, no attempt and no answer is forgotten.
-use Rattle.std.proofs.Common.{◌≡◌, ◌⊎◌, inl, inr, ⊎_elim, ℕ, Bool, true, false, List, [], ◌∷◌, map, refl, sym, ap, ◌∙◌, Option, Some, None}
+use Rattle.std.proofs.Common.{◌≡◌, ℕ, Bool, true, false, List, [], ◌∷◌, map, refl, sym, ◌∙◌, Option, Some}
 use Rattle.std.specs.Prelude.{is_some, ◌==◌, ◌&&◌, if◌then◌else◌}
 use Rattle.end_model.specs.declared.moves.Move.{Move}
 use Rattle.end_model.specs.declared.moves.Move.TheVariants as move
 use Rattle.end_model.specs.declared.moves.Restored.{Restored}
 use Rattle.end_model.specs.declared.moves.Froze.{Froze}
 use Rattle.world_model.specs.World.{Deed}
-use Rattle.channel_laws.specs.Accounts.{Part, Unmade, Opener, Acceptor, Renewed, Account, History, about, declines_of, declined_by, declined_in, entered_by, after_deed, attempts_by, answers_by, after, history_from}
+use Rattle.channel_laws.specs.Accounts.{Part, Unmade, Opener, Acceptor, Renewed, Account, History, about, declines_of, declined_by, declined_in, entered_by, attempts_by, answers_by, after, history_from}
 use Rattle.channel_laws.specs.Facts.{IsMade}
 use Rattle.channel_laws.proofs.Inactive.{IsReset}
 use Rattle.channel_laws.proofs.Numbering.{IsFirst}

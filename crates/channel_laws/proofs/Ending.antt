@@ -11,7 +11,6 @@ use Rattle.session_book.specs.Books.{tunnel_at, Kept}
 use Rattle.tunnel_fsm.specs.Rows.{state_number}
 use Rattle.end_names.specs.Names.{address_of, node_of}
 use Rattle.end_model.specs.declared.event.Event.{Event}
-use Rattle.end_model.specs.declared.event.Event.TheVariants.{Datagram}
 use Rattle.wire_base.specs.declared.why.Why.TheVariants as why
 use Rattle.control_message.specs.declared.message.Message.{Message}
 use Rattle.control_message.specs.declared.message.Message.TheVariants.{Sccrp, Scccn, StopCcn}
@@ -24,7 +23,6 @@ use Rattle.end_model.specs.declared.moves.Move.TheVariants as move
 use Rattle.end_model.specs.declared.out.Out.{Out}
 use Rattle.end_model.specs.declared.out.Out.TheVariants.{Send, Up, Gone, Drop, Cause}
 use Rattle.end_model.specs.declared.out.Origin.{Origin}
-use Rattle.end_model.specs.declared.out.Origin.TheVariants as origin
 use Rattle.end_model.specs.Contents.{call_down, tunnel_down, mark_by, records_of, contents_of}
 use Rattle.end_model.specs.Moments.{is_open}
 use Rattle.end_model.specs.Secrets.{uncovered_event}
@@ -32,12 +30,12 @@ use Rattle.end_model.specs.Tunnels.{Tunnel, mode_of, is_current}
 use Rattle.end_model.specs.End.{End, Stepped, plain_step}
 use Rattle.world_model.specs.declared.packet.Packet.{Packet}
 use Rattle.world_model.specs.declared.standing.Standing.{Standing}
-use Rattle.world_model.specs.World.{World, Node, Checkpoint, Sender, Deed, IsWhole, standing_of, answer_in, epoch_of, with_node, block_of, commits, deed_of, moved_all, epoch_sent, packet_from, sent, shown, shown_all, no_standing, IsCut, fallen, without_held, cut_line}
+use Rattle.world_model.specs.World.{World, Node, Checkpoint, Sender, Deed, IsWhole, epoch_of, with_node, block_of, commits, deed_of, moved_all, epoch_sent, packet_from, shown, shown_all, no_standing, IsCut, fallen, without_held, cut_line}
 use Rattle.step_laws.specs.Arrivals.{Came, ComesTo, IsAgain, IsStop}
 use Rattle.step_laws.specs.Letters.{Among, Carries}
 use Rattle.step_laws.specs.Moves.{Does, Chain}
 use Rattle.step_laws.specs.Steps.{AreKept, IsOfNoStart, IsChain, IsDecline, IsOfMoves, StepsAreChains, StepsAreNoStarts}
-use Rattle.step_laws.specs.Ups.{most_reads, ReadsAreFew}
+use Rattle.step_laws.specs.Ups.{ReadsAreFew}
 use Rattle.frame_laws.specs.Codecs.{Codecs}
 use Rattle.frame_laws.proofs.Chains.{moved_more}
 use Rattle.frame_laws.proofs.Deeds.{all_behind}
@@ -74,6 +72,7 @@ use Rattle.channel_laws.proofs.OfEnds.{book_ok}
 use Rattle.channel_laws.proofs.Refusing.{declined_for, decline_sent}
 use Rattle.channel_laws.proofs.Sending.{FramesFit, carries_ok}
 use Rattle.channel_laws.proofs.Stepping.{chain_both, reads_in, fits_there, Amid, Led, leads}
+use Rattle.channel_laws.proofs.MoveLists.{IsSplit, split, deeds_more, deed_last, sent_is, reads_once, same_agree}
 
 -- the laws of steps that are used
 pub record StepLaws : Type 0 where
@@ -117,77 +116,6 @@ record WasEarly (x : End) (i : ℕ) : Type 0 where
   there : at x.tunnels i ≡ Some tunnel
   active : IsActive tunnel
   early : state_number tunnel.control.state < 3
-
--- ---- lists of moves
-
--- one of them, and those before and behind it
-pub record IsSplit (moment : ℕ) (ev : Event) (e z : End) (m : Move) (ms : List Move) : Type 0 where
-  pub before : List Move
-  pub behind : List Move
-  pub is : ms ≡ before ++ (m ∷ behind)
-  pub from : End
-  pub to : End
-  pub comes : Chain moment ev e before from
-  pub does : Does from moment ev m to
-  pub goes : Chain moment ev to behind z
-
-pub split : (moment : ℕ) (ev : Event) (e z : End) (m : Move) (ms : List Move) → Among m ms → Chain moment ev e ms z → IsSplit moment ev e z m ms
-split moment ev e z m [] none chain = absurd none
-split moment ev e z m (k ∷ ks) (inl same) chain = record {
-  before = [];
-  behind = ks;
-  is = ap (λ q. q ∷ ks) same;
-  from = e;
-  to = chain.0;
-  comes = refl;
-  does = subst (λ q. Does e moment ev q chain.0) same chain.1;
-  goes = chain.2;
-}
-split moment ev e z m (k ∷ ks) (inr more) chain =
-    let s = split moment ev chain.0 z m ks more chain.2 in
-    record {
-      before = k ∷ s.before;
-      behind = s.behind;
-      is = ap (λ q. k ∷ q) s.is;
-      from = s.from;
-      to = s.to;
-      comes = (chain.0, chain.1, s.comes);
-      does = s.does;
-      goes = s.goes;
-    }
-
-pub deeds_more : (f : Move → Deed) (ms ns : List Move) (h : History) → history_from (map f ns) (history_from (map f ms) h) ≡ history_from (map f (ms ++ ns)) h
-unfolding history_from
-deeds_more f [] ns h = refl
-deeds_more f (m ∷ ms) ns h = deeds_more f ms ns (after h (f m))
-
-pub deed_last : (f : Move → Deed) (ms : List Move) (m : Move) (h : History) → history_from (map f (ms ++ m ∷ [])) h ≡ after (history_from (map f ms) h) (f m)
-unfolding history_from
-deed_last f [] m h = refl
-deed_last f (k ∷ ks) m h = deed_last f ks m (after h (f k))
-
--- ---- what is sent
-
-sent_is : (w : World) (ps : List Packet) (n q : ℕ) (bytes : List ℕ) (o : Origin)
-    → sent (with_mail w ps) n q bytes o ≡ with_mail w (ps ++ packet_from n q bytes o (epoch_sent w n o) ∷ [])
-unfolding sent standing_of
-sent_is w ps n q bytes (origin.Control c) = refl
-sent_is w ps n q bytes (origin.Data session) = refl
-sent_is w ps n q bytes (origin.Recovery own number empty) = refl
-
-reads_once : (ev : Event) → most_reads ev ≤ 1
-reads_once (Datagram peer bytes) = omega arith
-reads_once ev = omega arith
-
--- worlds with the same nodes and packets agree
-same_agree : (w v : World) → AreSame w v → Agree w v
-unfolding standing_of
-same_agree w v same = record {
-  there = λ m. ap (λ ns. is_some (at ns m)) same.nodes;
-  standings = λ m j. ap (λ ns. standing_of (record v { nodes = ns }) m j) same.nodes;
-  makes_as = λ m c. ap (λ ns. answer_in (at ns m) c) same.nodes;
-  packets = same.packets;
-}
 
 module _ (laws : StepLaws) (any : (m : Move) → IsOfNoStart m → Keeps m) (codecs : Codecs) (classes : ClassIsTrue) (J : World → History → List Move → Type 0) (w : World) (h : History)
     (holds : Holds w h) (number n : ℕ) (old : Node) (was : at w.nodes n ≡ Some old) (up : HoldsUp old) (found : Node) (finds : Finds old found) (base : World) (same : AreSame w base)

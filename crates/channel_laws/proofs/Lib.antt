@@ -71,6 +71,7 @@ mod Sending
 mod Records
 mod Earlier
 mod Cutting
+mod MoveLists
 mod Ending
 mod Wholly
 mod EachLine

@@ -1,14 +1,13 @@
 -- What is so of each tunnel of a book stays so behind records, where it is so of each tunnel that a record brings.
-use Rattle.std.proofs.Common.{◌≡◌, ◌⊎◌, inl, inr, ⊎_elim, ℕ, ◌+◌, ◌≤◌, ◌<◌, Bool, true, false, zero, suc, List, [], ◌∷◌, ◌++◌, map, take, drop, refl, sym, ap, ◌∙◌, subst, Option, Some, None, flat_map, arith}
-use Rattle.std.proofs.lemmas.Bool.{eqb-true}
+use Rattle.std.proofs.Common.{◌≡◌, inl, inr, ℕ, ◌+◌, ◌≤◌, Bool, true, false, zero, suc, List, [], ◌∷◌, ◌++◌, map, take, drop, refl, sym, ap, ◌∙◌, subst, Some, flat_map, arith}
 use Rattle.std.proofs.lemmas.Bool.Decides.{nat_tests}
-use Rattle.std.specs.Prelude.{min, ◌-◌, ◌*◌, ◌/◌, ◌==◌, if◌then◌else◌, nat_lt, nat_le, ◌&&◌}
+use Rattle.std.specs.Prelude.{min, ◌-◌, ◌*◌, ◌/◌, ◌==◌, if◌then◌else◌, nat_lt}
 use Rattle.std.specs.List.{AllByRecursion}
 use Rattle.id_source.specs.Spaces.{Space, counting_from}
 use Rattle.session_book.specs.declared.record.BookTunnel.{BookTunnel}
 use Rattle.session_book.specs.declared.record.Record.{Record}
 use Rattle.session_book.specs.declared.record.Record.TheVariants.{Ceiling, TunnelUp, TunnelDown, CallUp, CallDown, Mark}
-use Rattle.session_book.specs.Books.{Kept, AreRising, place, tunnel_at, raised, ceiling, fits, mark_on, marked, stepped as with_record}
+use Rattle.session_book.specs.Books.{Kept, place, raised, ceiling, fits, marked, stepped as with_record}
 use Rattle.end_names.specs.Names.{address_of}
 use Rattle.end_model.specs.Contents.{ceilings_of, records_of, contents_of}
 use Rattle.end_model.specs.declared.moves.Move.{Move}

@@ -1,7 +1,7 @@
 -- A whole step, with the frame that is handed up before it.
 use Rattle.std.proofs.Common.{⊎_elim, ◌≡◌, inl, inr, ℕ, ◌+◌, ◌^◌, ◌<◌, List, ◌++◌, refl, sym, ap, ◌∙◌, subst, arith}
 use Rattle.std.proofs.lemmas.Bool.{true≢false}
-use Rattle.std.specs.Prelude.{Bool, true, Option}
+use Rattle.std.specs.Prelude.{true, Option}
 use Rattle.id_table.specs.Ids.{at}
 use Rattle.recv_window.specs.Window.{ClassIsTrue}
 use Rattle.end_model.specs.declared.event.Event.{Event}
