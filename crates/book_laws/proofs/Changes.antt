@@ -26,9 +26,10 @@ use Rattle.end_model.specs.Moments.{is_open}
 use Rattle.end_model.specs.Tunnels.{Tunnel, new_tunnel, Recovering, mode_of, is_current}
 use Rattle.step_laws.specs.Moves.{with_tunnel}
 use Rattle.book_laws.specs.Books.{Mirrors, AreDrawn, booked_control, booked_call, tunnel_record, call_record, record_in, HasNone, CallFits, TunnelFits, TablesFit, AreInPlace, book_after, RecordsNone, LeavesNone}
+use Rattle.session_query.specs.Queries.{Asking}
 use Rattle.book_laws.proofs.Lists.{put_most, put_there}
 use Rattle.book_laws.proofs.Views.{same_book, TunnelComes, tunnel_came, tunnel_fits, TunnelGoes, tunnel_went_fits, tunnel_went, CallComes, call_came, call_fits, CallGoes, call_went_fits, call_went, MarkRises, tunnel_marked, mark_fits}
-use Rattle.book_laws.proofs.Fitting.{Grows, tunnel_later, control_fits, call_put_fits, call_without_fits, bare_fits, put_fits, without_fits, only_in, only_new, same_few, fresh_tunnel, fresh_call}
+use Rattle.book_laws.proofs.Fitting.{Grows, tunnel_later, control_fits, call_put_fits, call_without_fits, bare_fits, put_fits, without_fits, only_in, only_new, same_few, fresh_tunnel, fresh_call, asks_fit}
 
 -- a change leaves records, each in its place, and the book after them is that of the end after it
 pub record GoesOn (e x : End) (k : Kept) (rs : List Record) : Type 0 where
@@ -145,24 +146,26 @@ module _ (e x : End) (k : Kept) (fit : TablesFit e) (drawn : AreDrawn e k) (book
   within_ceiling : (i : ℕ) (t : Tunnel) → at e.tunnels i ≡ Some t → i ≤ k.tunnel_ceiling
   within_ceiling i t there = let lt = (fit.tunnels i t there).drawn in let le = drawn.tunnels in omega (arith, lt, le)
 
-  -- what isn't recorded of a control part changes, and its recovery tunnel, if only an open tunnel is frozen or restored
-  pub line_goes : (i : ℕ) (t : Tunnel) (c : Control) (ls : List Letter) (q : Option Recovering) → at e.tunnels i ≡ Some t
-      → x ≡ with_tunnel e i (record t { control = c; letters = ls; recovery = q }) → SameControl t.control c
+  -- what isn't recorded of a control part changes, what the tunnel asks for, and its recovery tunnel, if only an open tunnel is frozen or
+  -- restored
+  pub line_goes : (i : ℕ) (t : Tunnel) (c : Control) (ls : List Letter) (q : Option Recovering) (asks : Asking) → at e.tunnels i ≡ Some t
+      → x ≡ with_tunnel e i (record t { control = c; letters = ls; recovery = q; query = asks }) → SameControl t.control c
       → (is_current (mode_of q) ≡ false → state_number t.control.state ≡ 3) → GoesOn e x k []
-  line_goes i t c ls q there after same recovered =
+  line_goes i t c ls q asks there after same recovered =
       let is = ap (λ (y : End). y.tunnels) after in
       let grows = grows_so e x (ap (λ (y : End). y.role) after) (ap (λ (y : End). y.tunnel_ids) after) (ap (λ (y : End). y.session_ids) after) in
-      let u : Tunnel = record t { control = c; letters = ls; recovery = q } in
+      let u : Tunnel = record t { control = c; letters = ls; recovery = q; query = asks } in
       let old = fit.tunnels i t there in
       record {
         grows = grows;
         fit = put_fits e x fit grows i u is (same_few e x fit grows i t u there is)
-            (tunnel_later e x grows i u (control_fits e i t c ls q old
+            (tunnel_later e x grows i u
+            (asks_fit e i (record t { control = c; letters = ls; recovery = q }) asks (control_fits e i t c ls q old
             (λ two. subst (λ n. 0 < n) (sym same.remote) (old.remote (sym (ap state_number same.state) ∙ two)))
             (subst (λ n. 0 < n) (sym same.window) old.window)
             (λ three. ap state_number same.state ∙ three)
             (λ low. same.mark ∙ old.unmarked (subst (λ n. n < 3) (ap state_number same.state) low))
-            (λ apart. ap state_number same.state ∙ recovered apart)))
+            (λ apart. ap state_number same.state ∙ recovered apart))))
             (only_in e x fit grows i t u there (λ s d f. (d, f)));
         in_place = tt;
         book = same_book e x k book
@@ -174,7 +177,7 @@ module _ (e x : End) (k : Kept) (fit : TablesFit e) (drawn : AreDrawn e k) (book
   -- or only the control part does
   pub control_goes : (i : ℕ) (t : Tunnel) (c : Control) (ls : List Letter) → at e.tunnels i ≡ Some t → x ≡ with_tunnel e i (record t { control = c; letters = ls })
       → SameControl t.control c → GoesOn e x k []
-  control_goes i t c ls there after same = line_goes i t c ls t.recovery there after same (fit.tunnels i t there).recovered
+  control_goes i t c ls there after same = line_goes i t c ls t.recovery t.query there after same (fit.tunnels i t there).recovered
 
   -- the mark of an open tunnel rises, or stays
   module _ (i : ℕ) (t u : Tunnel) (there : at e.tunnels i ≡ Some t) (grows : Grows e x) (is : x.tunnels ≡ put e.tunnels i u) (fitted : TunnelFits x i u)
@@ -522,8 +525,9 @@ module _ (e x : End) (k : Kept) (fit : TablesFit e) (drawn : AreDrawn e k) (book
       let later : i < x.tunnel_ids.next = (let lt = old.drawn in let le = grows.tunnels in omega (arith, lt, le)) in
       tunnel_ends i t there grows
       (put_fits e x fit grows i u is (same_few e x fit grows i t u there is)
+      (asks_fit x i (record (new_tunnel c) { letters = ls; recovery = t.recovery }) t.query
       (bare_fits x i c ls t.recovery old.some later (λ two. absurd (omega (arith, two, four))) window
-      (λ low. absurd (omega (arith, low, four))) (λ apart. absurd (true≢false (sym current ∙ apart))))
+      (λ low. absurd (omega (arith, low, four))) (λ apart. absurd (true≢false (sym current ∙ apart)))))
       (λ s d f. absurd (none-some d (sym (at-none s) ∙ f))))
       (ap (tunnel_record i) (at_it e x i u is) ∙ closed_record i u shut)
       (λ s. ap (record_in i s) (at_it e x i u is) ∙ ap (call_record i s) (at-none s))

@@ -11,6 +11,7 @@ use Rattle.end_model.specs.Channels.{peer_window}
 use Rattle.end_model.specs.End.{End}
 use Rattle.end_model.specs.Tunnels.{Tunnel, new_tunnel, Recovering, mode_of, is_current}
 use Rattle.book_laws.specs.Books.{HasNone, CallFits, TunnelFits, TablesFit}
+use Rattle.session_query.specs.Queries.{Asking}
 use Rattle.book_laws.proofs.Lists.{put_most, put_there, without_most}
 
 -- an end that comes after another: of the same role, and it has drawn as many ids or more
@@ -56,6 +57,20 @@ control_fits e i t c ls q h remote window opens unmarked recovered = record {
   unmarked = unmarked;
   recovered = recovered;
   calls = λ s d f. (let g = h.calls s d f in record { some = g.some; drawn = g.drawn; none = g.none; up = λ u. opens (g.up u) });
+}
+
+-- or what it asks for
+pub asks_fit : (e : End) (i : ℕ) (t : Tunnel) (asks : Asking) → TunnelFits e i t → TunnelFits e i (record t { query = asks })
+asks_fit e i t asks h = record {
+  some = h.some;
+  drawn = h.drawn;
+  order = h.order;
+  few = h.few;
+  remote = h.remote;
+  window = h.window;
+  unmarked = h.unmarked;
+  recovered = h.recovered;
+  calls = λ s d f. (let g = h.calls s d f in record { some = g.some; drawn = g.drawn; none = g.none; up = g.up });
 }
 
 -- and one of its calls

@@ -5,6 +5,7 @@ pub mod Fitting
 pub mod States
 pub mod Windows
 pub mod Changes
+pub mod Ending
 pub mod Finished
 pub mod Moves
 pub mod Ceilings

@@ -35,12 +35,13 @@ use Rattle.call_link.specs.Link.{new_link}
 use Rattle.step_laws.specs.Moves.{Does, begun, begun_anew, finished_of}
 use Rattle.step_laws.specs.Steps.{IsOfNoStart}
 use Rattle.book_laws.specs.Books.{Mirrors, AreDrawn, HasNone, CallFits, TablesFit, booked_call}
-use Rattle.book_laws.proofs.Fitting.{Grows, call_later, tunnel_later, control_fits, more_few}
+use Rattle.book_laws.proofs.Fitting.{Grows, call_later, tunnel_later, control_fits, more_few, asks_fit}
 use Rattle.book_laws.proofs.Finished.{finished_fits, finished_found, finished_record}
 use Rattle.book_laws.proofs.States.{requested_state, replied_state, rung_state, connected_state, connection_is_lac, reply_is_lns, connected_is_lns, not_up_before, rung_none, asked_none, lac_none, lns_none, alike_none, lns_subscriber, numbers_first, numbers_after, no_number_after}
 use Rattle.book_laws.proofs.Told.{IsTold, body_tells}
 use Rattle.book_laws.proofs.Windows.{acked_leaves, sent_leaves, repeated_leaves, learnt_is}
 use Rattle.book_laws.proofs.Changes.{GoesOn, SameControl, same_control, grows_so, nothing_goes, line_goes, control_goes, tunnel_marks, tunnel_opens, tunnel_born, call_goes, call_rises, call_born, call_ends, tunnel_shuts, tunnel_clears, down_record}
+use Rattle.book_laws.proofs.Ending.{answer_goes}
 
 positive : (n : ℕ) → (n ≡ 0 → ⊥) → 0 < n
 positive zero h = absurd (h refl)
@@ -295,21 +296,32 @@ module _ (e x : End) (k : Kept) (fit : TablesFit e) (drawn : AreDrawn e k) (book
       let grows = same_spaces e x (ap (λ (y : End). y.role) h.after) (ap (λ (y : End). y.tunnel_ids) h.after) (ap (λ (y : End). y.session_ids) h.after) in
       let u = begun_anew m.send_from m.expect (max t.control.mark m.draw) (ByAttempt h.new) t in
       tunnel_marks e x k fit drawn book m.tunnel t u h.there grows (ap (λ (y : End). y.tunnels) h.after)
-      (tunnel_later e x grows m.tunnel u (control_fits e m.tunnel t u.control [] (Some (ByAttempt h.new)) old
+      (tunnel_later e x grows m.tunnel u
+      (asks_fit e m.tunnel (record t { control = u.control; letters = []; recovery = Some (ByAttempt h.new) }) u.query
+      (control_fits e m.tunnel t u.control [] (Some (ByAttempt h.new)) old
       (λ two. absurd (omega (arith, two, open_is))) old.window (λ three. three)
-      (λ low. absurd (omega (arith, low, open_is))) (λ apart. open_is)))
+      (λ low. absurd (omega (arith, low, open_is))) (λ apart. open_is))))
       (λ s d f. (d, f)) (λ s. refl)
       (record { state = refl; remote = refl; peer = refl; window = refl; flags = refl })
       open_is m.marked m.draw h.marked refl
   does_go moment ev (move.ResetAnswering m) so h =
       let open_is = (fit.tunnels m.tunnel h.tunnel h.there).recovered (answer_waits h.tunnel.recovery h.old h.answers h.waits) in
-      line_goes e x k fit drawn book m.tunnel h.tunnel _ _ _ h.there h.after
+      line_goes e x k fit drawn book m.tunnel h.tunnel _ _ _ _ h.there h.after
       (record { state = refl; remote = refl; peer = refl; window = refl; flags = refl; mark = refl }) (λ apart. open_is)
+  does_go moment ev (move.Queried m) so h =
+      line_goes e x k fit drawn book m.tunnel h.tunnel _ _ h.tunnel.recovery _ h.there h.after (given h.tunnel.control)
+      (fit.tunnels m.tunnel h.tunnel h.there).recovered
+  does_go moment ev (move.AnsweredQuery m) so h =
+      control_goes e x k fit drawn book m.tunnel h.tunnel _ _ h.there h.after (taken_given h.tunnel.control)
+  does_go moment ev (move.TookAnswer m) so h =
+      answer_goes e x k fit drawn book m.tunnel h.tunnel _ _ m.ended h.there h.up h.after (taken h.tunnel.control)
   does_go moment ev (move.RecoveryWentOn i) so h =
-      line_goes e x k fit drawn book i h.tunnel h.tunnel.control h.tunnel.letters _ h.there h.after (same_control h.tunnel.control)
+      line_goes e x k fit drawn book i h.tunnel h.tunnel.control h.tunnel.letters _ h.tunnel.query h.there h.after
+      (same_control h.tunnel.control)
       (λ apart. (fit.tunnels i h.tunnel h.there).recovered (ap (λ o. is_current (mode_of o)) h.has ∙ still_so h.old h.channel h.closed h.remote apart))
   does_go moment ev (move.RecoveryEnded i) so h =
-      line_goes e x k fit drawn book i h.tunnel h.tunnel.control h.tunnel.letters None h.there h.after (same_control h.tunnel.control)
+      line_goes e x k fit drawn book i h.tunnel h.tunnel.control h.tunnel.letters None h.tunnel.query h.there h.after
+      (same_control h.tunnel.control)
       (λ apart. absurd (true≢false apart))
   does_go moment ev (move.Ignored i) so h =
       control_goes e x k fit drawn book i h.tunnel _ _ h.there h.after

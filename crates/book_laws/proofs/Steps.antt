@@ -7,7 +7,7 @@ use Rattle.id_table.specs.Ids.{at, at-none}
 use Rattle.id_table.specs.Order.{ascends-empty}
 use Rattle.id_source.specs.Spaces.{Space, after_id}
 use Rattle.session_book.specs.declared.record.Record.{Record}
-use Rattle.session_book.specs.declared.record.Record.TheVariants.{Ceiling}
+use Rattle.session_book.specs.declared.record.Record.TheVariants.{Ceiling, CallDown}
 use Rattle.session_book.specs.Books.{Kept, nothing_kept, stepped, raised}
 use Rattle.end_names.specs.declared.role.Role.{Role}
 use Rattle.end_model.specs.declared.event.Event.{Event}
@@ -95,6 +95,12 @@ module _ (e x : End) where
   does_draw moment ev (move.Quiet i) h = record { tunnels = inl (ap tunnels_of h.after); sessions = inl (ap sessions_of h.after); recoveries = inl (ap recoveries_of h.after) }
   does_draw moment ev (move.ResetAttempting m) h = record { tunnels = inl (ap tunnels_of h.after); sessions = inl (ap sessions_of h.after); recoveries = inl (ap recoveries_of h.after) }
   does_draw moment ev (move.ResetAnswering m) h = record { tunnels = inl (ap tunnels_of h.after); sessions = inl (ap sessions_of h.after); recoveries = inl (ap recoveries_of h.after) }
+  does_draw moment ev (move.Queried m) h =
+      record { tunnels = inl (ap tunnels_of h.after); sessions = inl (ap sessions_of h.after); recoveries = inl (ap recoveries_of h.after) }
+  does_draw moment ev (move.AnsweredQuery m) h =
+      record { tunnels = inl (ap tunnels_of h.after); sessions = inl (ap sessions_of h.after); recoveries = inl (ap recoveries_of h.after) }
+  does_draw moment ev (move.TookAnswer m) h =
+      record { tunnels = inl (ap tunnels_of h.after); sessions = inl (ap sessions_of h.after); recoveries = inl (ap recoveries_of h.after) }
   does_draw moment ev (move.RecoveryWentOn i) h = record { tunnels = inl (ap tunnels_of h.after); sessions = inl (ap sessions_of h.after); recoveries = inl (ap recoveries_of h.after) }
   does_draw moment ev (move.RecoveryEnded i) h = record { tunnels = inl (ap tunnels_of h.after); sessions = inl (ap sessions_of h.after); recoveries = inl (ap recoveries_of h.after) }
   does_draw moment ev (move.Ignored i) h = record { tunnels = inl (ap tunnels_of h.after); sessions = inl (ap sessions_of h.after); recoveries = inl (ap recoveries_of h.after) }
@@ -169,6 +175,11 @@ mark_leaves : (marked : Bool) (i mark : ℕ) (k : Kept) → SameCeilings k (book
 mark_leaves true i mark k = record { tunnels = refl; sessions = refl; draws = refl }
 mark_leaves false i mark k = record { tunnels = refl; sessions = refl; draws = refl }
 
+downs_leave : (ss : List ℕ) (k : Kept) → SameCeilings k (book_after k (map (λ s. CallDown s) ss))
+downs_leave [] k = record { tunnels = refl; sessions = refl; draws = refl }
+downs_leave (s ∷ ss) k = let later = downs_leave ss (stepped k (CallDown s)) in
+    record { tunnels = later.tunnels; sessions = later.sessions; draws = later.draws }
+
 ceilings_stay : (m : Move) (k : Kept) → SameCeilings k (book_after k (records_of m))
 unfolding records_of
 ceilings_stay (move.EndTold m) k = call_leaves m.booked m.session k
@@ -179,6 +190,7 @@ ceilings_stay (move.ClosedBy m) k = tunnel_leaves m.booked m.tunnel k
 ceilings_stay (move.Cleared i booked) k = tunnel_leaves booked i k
 ceilings_stay (move.Froze m) k = mark_leaves m.marked m.tunnel m.asked k
 ceilings_stay (move.ResetAttempting m) k = mark_leaves m.marked m.tunnel m.draw k
+ceilings_stay (move.TookAnswer m) k = downs_leave m.ended k
 ceilings_stay m k = record { tunnels = refl; sessions = refl; draws = refl }
 
 -- ---- a chain of moves

@@ -5,7 +5,7 @@ use Rattle.std.proofs.lemmas.Option.{none-some}
 use Rattle.std.specs.Prelude.{◌==◌, ◌&&◌, not}
 use Rattle.wire_base.specs.Answers.{◌>>=◌}
 use Rattle.avp_codec.specs.declared.avp.Avp.{Avp}
-use Rattle.control_message.specs.declared.kind.Kinds.TheVariants.{Base}
+use Rattle.control_message.specs.declared.kind.Kinds.TheVariants.{Queries}
 use Rattle.control_message.specs.declared.kind.Kind.{Kind}
 use Rattle.control_message.specs.declared.kind.Kind.TheVariants as kind
 use Rattle.control_message.specs.declared.kind.Shape.TheVariants.{Nonzero}
@@ -19,10 +19,10 @@ use Rattle.control_message.specs.declared.message.Read.TheVariants.{Known, Ignor
 use Rattle.control_message.specs.declared.message.MessageError.{MessageError}
 use Rattle.control_message.specs.declared.message.MessageError.TheVariants.{HiddenWithoutVector, BadValue}
 use Rattle.control_message.specs.Table.{kind_of, shape_of, fits}
-use Rattle.control_message.specs.Reading.{counts_once, response_at, suggested_at, draw_at, is_listed, is_at, first, has_vector, checked_value, checked, checked_all, value_in, value_at, number_in, u16_at, u32_at, window_in, window_at, failover_at, recovery_at, opening_at, icrq_at, icrp_at, iccn_at, result_code_at, stop_ccn_at, ocrq_at, cdn_at, wen_at, sli_at, of_kind, type_number, of_type, with_type, message_of, message_by}
+use Rattle.control_message.specs.Reading.{counts_once, response_at, suggested_at, draw_at, is_listed, is_at, first, has_vector, checked_value, checked, checked_all, value_in, value_at, number_in, u16_at, u32_at, window_in, window_at, failover_at, recovery_at, opening_at, icrq_at, icrp_at, iccn_at, result_code_at, stop_ccn_at, ocrq_at, cdn_at, wen_at, sli_at, of_kind, type_number, of_type, with_type, message_by}
 use Rattle.avp_codec.specs.declared.error.AvpError.{AvpError}
 use Rattle.avp_codec.specs.Reading.{avps_of}
-use Rattle.end_model.specs.Reading.{message_in, message_read, pairs_read}
+use Rattle.end_model.specs.Reading.{message_in, message_read, pairs_read, message_said}
 use Rattle.book_laws.proofs.Lists.{branch, and_left, and_right}
 
 -- ---- a reading in steps
@@ -219,11 +219,11 @@ module _ (avps : List Avp) where
   type_tells n mandatory (Some k) =
       gives_after ReadTells (checked_all k [] avps) _ (λ u checks. known_tells (of_kind k avps) (kind_tells k u checks))
 
-  pairs_tell : (o : Option Avp) → Gives ReadTells (with_type Base o avps)
+  pairs_tell : (o : Option Avp) → Gives ReadTells (with_type Queries o avps)
   pairs_tell None = tt
-  pairs_tell (Some a) = gives_after ReadTells (type_number a) _ (λ n is. type_tells n a.mandatory (kind_of Base n))
+  pairs_tell (Some a) = gives_after ReadTells (type_number a) _ (λ n is. type_tells n a.mandatory (kind_of Queries n))
 
-  pub message_tells : (m : Message) → message_of avps ≡ Ok (Known m) → TellsSome m
+  pub message_tells : (m : Message) → message_said avps ≡ Ok (Known m) → TellsSome m
   unfolding message_by
   message_tells m is = subst (Gives ReadTells) is (pairs_tell (first 0 avps))
 
@@ -237,7 +237,7 @@ read_tells (Err e) m h is = absurd cc
 
 body_tells_by : (r : Result (List Avp) AvpError) (m : Message) → pairs_read r ≡ Ok m → TellsSome m
 unfolding pairs_read
-body_tells_by (Ok avps) m is = read_tells (message_of avps) m (message_tells avps) is
+body_tells_by (Ok avps) m is = read_tells (message_said avps) m (message_tells avps) is
 body_tells_by (Err e) m is = absurd cc
 
 pub body_tells : (body : List ℕ) (m : Message) → message_in body ≡ Ok m → TellsSome m

@@ -120,6 +120,9 @@ module _ {X : Type 0} (see : Node → X)
   move_same n w (move.Froze m) = epoch_same w n m.tunnel (node_of m.peer) m.remote m.answer
   move_same n w (move.ResetAttempting m) = enters_same w n m.tunnel (answer_in (at w.nodes (node_of m.peer)) m.answer)
   move_same n w (move.ResetAnswering m) = enters_same w n m.tunnel (answer_in (at w.nodes n) m.answer)
+  move_same n w (move.Queried m) = λ k. refl
+  move_same n w (move.AnsweredQuery m) = λ k. refl
+  move_same n w (move.TookAnswer m) = λ k. refl
   move_same n w (move.RecoveryWentOn i) = λ k. refl
   move_same n w (move.RecoveryEnded i) = λ k. refl
   move_same n w (move.Ignored i) = λ k. refl

@@ -31,11 +31,11 @@ use Rattle.step_laws.specs.Moves.{Came, with_tunnel, with_letter, begun, learns_
 use Rattle.frame_laws.specs.Codecs.{Codecs}
 use Rattle.book_laws.proofs.Lists.{entry_has}
 use Rattle.connection_laws.specs.Facts.{IsNoOpening}
-use Rattle.connection_laws.proofs.Alike.{read_same}
 use Rattle.connection_laws.proofs.Connecting.{IsLearnt, learnt}
 use Rattle.connection_laws.proofs.Hearing.{no_message, first_only}
 use Rattle.connection_laws.proofs.Taking.{got_push}
 use Rattle.connection_laws.proofs.Written.{asks_short, responds_sized, opening_written, same_opening, node_again, node_fits}
+use Rattle.channel_laws.proofs.Spelled.{letter_same}
 use Rattle.channel_laws.specs.Accounts.{Unmade, Opener, Acceptor, Renewed, Taken, Account, no_account, History, about, gives_also, takes_at, entered_by, after}
 use Rattle.channel_laws.specs.Facts.{IsMade, partner_in, IsTaken, AreTaken, IsAcceptor, IsCopy, SaysRecovery, AsksFor, Suggests, Confirms, Refuses, AccountOk, ChannelOk, LiveOk, EndOk, BookOk, NodeOk, Holds}
 use Rattle.channel_laws.specs.Recoveries.{WrittenIsRead, WrittenHasRoom}
@@ -139,7 +139,7 @@ module _ (codecs : Codecs) (again : WrittenIsRead) (room : WrittenHasRoom) (w : 
       let a = h.accounts f.packet.from f.o.tunnel 0 in
       let copy : IsCopy a f.packet f.o = subst (λ z. IsCopy (h.accounts f.packet.from f.o.tunnel z) f.packet f.o) zero f.copy in
       let q : IsLetterRead a f.o came.header bytes = subst (λ z. IsLetterRead (h.accounts f.packet.from f.o.tunnel z) f.o came.header bytes) zero letter in
-      let message = read_same q.letter.message (body_of bytes came.header) q.reads (Sccrq opening) said tt in
+      let message = letter_same q.letter (body_of bytes came.header) q.reads (Sccrq opening) said tt in
       let asks = asks_first w h k.holds f.packet.from f.o.tunnel q.place q.letter opening q.there message copy.made in
       record {
         from = f.packet.from;
@@ -155,7 +155,7 @@ module _ (codecs : Codecs) (again : WrittenIsRead) (room : WrittenHasRoom) (w : 
         sender_is = f.sender_is;
       })
       (λ r.
-      let message = read_same letter.letter.message (body_of bytes came.header) letter.reads (Sccrq opening) said tt in
+      let message = letter_same letter.letter (body_of bytes came.header) letter.reads (Sccrq opening) said tt in
       absurd (subst IsNoOpening message (all_at (λ (l : Letter). IsNoOpening l.message) (h.accounts f.packet.from f.o.tunnel f.packet.epoch).given letter.place letter.letter letter.there r.no_opening)))
       (first_or_later w h f.packet.from f.o.tunnel f.packet.epoch (h.accounts f.packet.from f.o.tunnel f.packet.epoch) (k.holds.accounts f.packet.from f.o.tunnel f.packet.epoch) f.copy.made)
     where
@@ -324,12 +324,12 @@ module _ (codecs : Codecs) (again : WrittenIsRead) (room : WrittenHasRoom) (w : 
     first_taken = omega arith;
     from_none = λ zero. (refl, refl);
     spelled = (
-      record {
+      inl (record {
         written = opening_written e.role (config_of n 0 None false) m.challenge m.response m.tunnel both_ok.0.node some fits (asks_short e.config.secret m.challenge k.does.asks)
             (responds_sized 2 e.config.secret opening.challenge m.response k.does.responds);
         hides = tt;
         session = omega arith;
-      },
+      }),
       tt,
     );
     told = (tt, tt);
@@ -388,6 +388,7 @@ module _ (codecs : Codecs) (again : WrittenIsRead) (room : WrittenHasRoom) (w : 
     recovery = λ r none. absurd (none-some r none);
     unattempted = λ early a r found. never_attempted w h n node x d i k.there k.holds unmade a r (sym (only.attempts n a) ∙ found);
     calls = λ s y f. absurd (none-some y (sym (at-none s) ∙ f));
+    query = record { none = λ z. refl; fit = tt };
   }
 
   puts : Puts node.end x i u

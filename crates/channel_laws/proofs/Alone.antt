@@ -14,12 +14,12 @@ use Rattle.end_model.specs.declared.moves.Place.{Place}
 use Rattle.end_model.specs.declared.moves.Closed.{Closed}
 use Rattle.end_model.specs.declared.moves.Refused.{Refused}
 use Rattle.end_model.specs.Reading.{CallFault}
-use Rattle.end_model.specs.Tunnels.{Tunnel}
+use Rattle.end_model.specs.Tunnels.{Tunnel, no_query}
 use Rattle.end_model.specs.End.{End}
 use Rattle.world_model.specs.World.{Sender, Deed, World}
 use Rattle.step_laws.specs.Callers.{IsRing, WantsTunnel, LacWants}
 use Rattle.step_laws.specs.Arrivals.{Came, IsNext}
-use Rattle.step_laws.specs.Moves.{Taking, GrantsCall, DeniesCall, AsksItself, HasUsedId, HasAllCalls, HasNoSession, WhyRefused, IsNotGranted, IsOutgoing, IsReplyToNone, IsWrong, IsPlain, WhyCloses, ByOperator, ByLetter}
+use Rattle.step_laws.specs.Moves.{Taking, GrantsCall, DeniesCall, AsksItself, HasUsedId, HasAllCalls, HasNoSession, WhyRefused, IsNotGranted, IsOutgoing, IsReplyToNone, IsWrong, IsPlain, WhyCloses, ByOperator, ByLetter, LetterCloses}
 use Rattle.connection_laws.specs.Facts as calm_facts
 use Rattle.connection_laws.specs.Facts.{AllWait}
 use Rattle.channel_laws.specs.Accounts.{Part, Unmade, Opener, Acceptor, Renewed, Taken, Account, History, gives, gives_also, takes_at}
@@ -58,9 +58,13 @@ refused_bare e i t header said fault m (IsOutgoing remote is same one two) = IsO
 refused_bare e i t header said fault m (IsReplyToNone remote is none lns same one two) = IsReplyToNone remote is none lns same one two
 refused_bare e i t header said fault m (IsWrong f is same one two) = IsWrong f is same one two
 
-pub closes_bare : (secret : Option (List ℕ)) (t : Tunnel) (ev : Event) (on : TunnelEvent) (m : Closed) → WhyCloses secret t ev on m → WhyCloses secret (bare t) ev on m
-closes_bare secret t ev on m (ByOperator is by same one two) = ByOperator is by same one two
-closes_bare secret t ev on m (ByLetter told k next spare why other same) = ByLetter told k (next_bare ev t k next) spare why other same
+pub closes_bare : (secret : Option (List ℕ)) (t : Tunnel) (ev : Event) (on : TunnelEvent) (m : Closed) → t.query ≡ no_query
+    → WhyCloses secret t ev on m
+    → WhyCloses secret (bare t) ev on m
+closes_bare secret t ev on m none (ByOperator is by same one two) = ByOperator is by same one two
+closes_bare secret t ev on m none (ByLetter told k next spare why other same) =
+    ByLetter told k (next_bare ev t k next) spare (subst (λ q. LetterCloses secret t.control q k on told m.result m.error) none why) other
+    same
 
 pub wants_bare : (e : End) (i : ℕ) (t : Tunnel) (ev : Event) (peer : ℕ) → WantsTunnel e ev peer → WantsTunnel (alone_in e i t) ev peer
 wants_bare e i t ev peer (LacWants lac lns asks) = LacWants lac lns asks

@@ -14,7 +14,7 @@ use Rattle.world_model.specs.declared.packet.Packet.{Packet}
 use Rattle.world_model.specs.declared.standing.Standing.{Standing}
 use Rattle.world_model.specs.World.{World, standing_of, epoch_of}
 use Rattle.channel_laws.specs.Accounts.{Part, Unmade, Opener, Acceptor, Renewed, Account, History}
-use Rattle.channel_laws.specs.Facts.{makes, BookedOk, AnswerOk, AttemptOk, BeginsBy, AsGiver, AsPeer, IsRenewed, IsPart, AccountOk, ChannelOk, IsRecovered, LiveOk, BookOk, StandingOk, SaysRecovery, AsksFor, Suggests, Confirms, Refuses, OriginOk, PacketOk}
+use Rattle.channel_laws.specs.Facts.{makes, BookedOk, AnswerOk, AttemptOk, BeginsBy, AsGiver, AsPeer, IsRenewed, IsPart, AccountOk, ChannelOk, IsRecovered, LiveOk, BookOk, StandingOk, SaysRecovery, AsksFor, Suggests, Confirms, Refuses, OriginOk, PacketOk, QueryOk}
 
 -- what is there stays there
 still_some : (o q : Option Froze) → ((f : Froze) → o ≡ Some f → q ≡ Some f) → is_some o ≡ true → is_some q ≡ true
@@ -49,6 +49,7 @@ module _ (w v : World) (h : History) (epochs : (n i : ℕ) → epoch_of v n i �
     recovery = λ r is. recovered_stays n i r (ok.recovery r is);
     unattempted = ok.unattempted;
     calls = ok.calls;
+    query = subst (λ e. QueryOk e t.query) (sym (epochs n i)) ok.query;
   }
 
 -- ---- one more answer is known
@@ -156,6 +157,7 @@ module _ (w : World) (h : History) (answers : ℕ → ℕ → Option Froze) (kep
     recovery = λ r is. recovered_more n i r (ok.recovery r is);
     unattempted = ok.unattempted;
     calls = ok.calls;
+    query = ok.query;
   }
 
   pub standing_more : (n i : ℕ) (s : Standing) → StandingOk h n i s → StandingOk more n i s

@@ -26,6 +26,8 @@ use Rattle.frame_laws.specs.Codecs.{Codecs}
 use Rattle.frame_laws.specs.Written.{IsWritten}
 use Rattle.connection_laws.proofs.Alike.{read_opens, read_stops}
 use Rattle.connection_laws.proofs.Stops.{stops_by, no_stop}
+use Rattle.channel_laws.specs.Recoveries.{WrittenIsRead, WrittenHasRoom}
+use Rattle.channel_laws.proofs.Spelled.{IsPlainRead, IsQueryRead, query_for_none}
 use Rattle.channel_laws.specs.Accounts.{History}
 use Rattle.channel_laws.specs.Epochs.{EpochsKnown}
 use Rattle.channel_laws.specs.Facts.{ChannelOk, LiveOk, EndOk, BookOk, NodeOk, IsCopy, IsRefusal, OriginOk, PacketOk, Holds}
@@ -41,7 +43,8 @@ use Rattle.channel_laws.proofs.Told.{all_at}
 written_opens : (m : Message) (x : Opening) → m ≡ Sccrq x → IsWritten m → x.tunnel ≡ 0 → ⊥
 written_opens m x is w z = let k = subst IsWritten is w in let lt = k.0.tunnel_not_zero in absurd (omega (arith, lt, z))
 
-module _ (codecs : Codecs) (classes : ClassIsTrue) (w : World) (h : History) (holds : Holds w h) (known : EpochsKnown w h) (n : ℕ) (node : Node) (node_is : at w.nodes n ≡ Some node)
+module _ (codecs : Codecs) (again : WrittenIsRead) (room : WrittenHasRoom) (classes : ClassIsTrue) (w : World) (h : History)
+    (holds : Holds w h) (known : EpochsKnown w h) (n : ℕ) (node : Node) (node_is : at w.nodes n ≡ Some node)
     (p : Packet) (to : p.to ≡ n) (ok : PacketOk w h p) where
   abbrev e : End
   e = node.end
@@ -62,17 +65,24 @@ module _ (codecs : Codecs) (classes : ClassIsTrue) (w : World) (h : History) (ho
   copy_reaches o c i t kh there peer read is =
       let b = h.accounts p.from o.tunnel p.epoch in
       let ok_there = holds.accounts p.from o.tunnel p.epoch in
-      let r = copy_read codecs b p o e.config.secret kh ok_there.remote ok_there.spelled c read in
+      let r = copy_read codecs again room p.epoch b p o e.config.secret kh ok_there.remote ok_there.spelled c read in
       subst (λ q. reached_plain e q bytes ≡ Some t.control) peer
       (is_reached e end.apart i t there (end.live i t there).local (live_some i t there) bytes kh read r.control
       (λ q opens z. ⊎_elim
       (λ (l : IsLetterRead b o kh bytes).
-      let asks = read_opens l.letter.message (body_of bytes kh) l.reads q opens in
-      written_opens l.letter.message asks.0 asks.1 l.spelled.written (sym asks.2 ∙ z))
+      ⊎_elim
+      (λ (r : IsPlainRead l.letter (body_of bytes kh)).
+      let asks = read_opens l.letter.message (body_of bytes kh) r.reads q opens in
+      written_opens l.letter.message asks.0 asks.1 r.spelled.written (sym asks.2 ∙ z))
+      (λ (r : IsQueryRead l.letter (body_of bytes kh)). let both = sym (query_for_none l.letter (body_of bytes kh) r) ∙ opens in absurd cc)
+      l.reads)
       (λ (l : IsNoneRead o kh bytes). empty_opens_none q (ap at_zero (sym l.body) ∙ opens))
       r.says)
       (λ q stops. ⊎_elim
-      (λ (l : IsLetterRead b o kh bytes). (read_stops l.letter.message (body_of bytes kh) l.reads q stops).some)
+      (λ (l : IsLetterRead b o kh bytes). ⊎_elim
+      (λ (r : IsPlainRead l.letter (body_of bytes kh)). (read_stops l.letter.message (body_of bytes kh) r.reads q stops).some)
+      (λ (r : IsQueryRead l.letter (body_of bytes kh)). let both = sym (query_for_none l.letter (body_of bytes kh) r) ∙ stops in absurd cc)
+      l.reads)
       (λ (l : IsNoneRead o kh bytes). absurd (no_stop codecs q (ap at_zero (sym l.body) ∙ stops)))
       r.says)
       is)
@@ -108,7 +118,8 @@ module _ (codecs : Codecs) (classes : ClassIsTrue) (w : World) (h : History) (ho
     near_copy : IsCopy (h.accounts p.from o.tunnel p.epoch) p o → (p.epoch ≡ epoch_of w n i) × IsNear (h.accounts n i p.epoch) t o
     near_copy copy =
         let d : IsDelivered w p o node i t = record { origin_is = origin_is; there = ap (at w.nodes) to ∙ node_is; live = there; reached_it = reaches; young = not_old } in
-        near_by (epoch codecs classes w h holds known p o node i t d current copy ∙ ap (λ q. epoch_of w q i) to) (young codecs classes w h holds known p o node i t d current copy)
+        near_by (epoch codecs again room classes w h holds known p o node i t d current copy ∙ ap (λ q. epoch_of w q i) to)
+        (young codecs again room classes w h holds known p o node i t d current copy)
 
     near_refusal : IsRefusal h p o → (p.epoch ≡ epoch_of w n i) × IsNear (h.accounts n i p.epoch) t o
     near_refusal r =
@@ -144,7 +155,8 @@ module _ (codecs : Codecs) (classes : ClassIsTrue) (w : World) (h : History) (ho
   }
 
 -- whatever comes in
-module _ (codecs : Codecs) (classes : ClassIsTrue) (w : World) (h : History) (holds : Holds w h) (known : EpochsKnown w h) (n : ℕ) (node : Node) (node_is : at w.nodes n ≡ Some node) where
+module _ (codecs : Codecs) (again : WrittenIsRead) (room : WrittenHasRoom) (classes : ClassIsTrue) (w : World) (h : History)
+    (holds : Holds w h) (known : EpochsKnown w h) (n : ℕ) (node : Node) (node_is : at w.nodes n ≡ Some node) where
   no_packet : (ev : Event) (secret : Option (List ℕ)) (peer : ℕ) (bytes : List ℕ) → IsNoDatagram ev → uncovered_event secret ev ≡ Datagram peer bytes → ⊥
   no_packet (Datagram q bs) secret peer bytes none is = none
   no_packet ev secret peer bytes none is = absurd cc
@@ -159,5 +171,5 @@ module _ (codecs : Codecs) (classes : ClassIsTrue) (w : World) (h : History) (ho
       subst (λ s. IsPacket w h n node.end s peer bytes) (sym sender_is)
       (subst (λ q. IsPacket w h n node.end (sender_of p.from p.origin) q bytes) same_peer
       (subst (λ bs. IsPacket w h n node.end (sender_of p.from p.origin) (address_of p.from) bs) same_bytes
-      (packet_comes codecs classes w h holds known n node node_is p to ok k sent fresh)))
+      (packet_comes codecs again room classes w h holds known n node node_is p to ok k sent fresh)))
   comes_first ev sender (OfItself none sender_is) peer bytes is = absurd (no_packet ev node.end.config.secret peer bytes none is)

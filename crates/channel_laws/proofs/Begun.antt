@@ -11,9 +11,11 @@ use Rattle.world_model.specs.declared.standing.Standing.{Standing}
 use Rattle.world_model.specs.World.{World, Node, standing_of, epoch_of}
 use Rattle.step_laws.specs.Letters.{Letter}
 use Rattle.step_laws.specs.Moves.{with_tunnel, begun_anew}
-use Rattle.connection_laws.specs.Facts.{IsSpelled, TellsOwn, kept_letter}
+use Rattle.connection_laws.specs.Facts.{TellsOwn, kept_letter}
+use Rattle.wire_base.specs.declared.pair.Pair.{Pair}
+use Rattle.end_model.specs.Calls.{sessions_of}
 use Rattle.channel_laws.specs.Accounts.{Account, History}
-use Rattle.channel_laws.specs.Facts.{makes, IsRenewed, IsPart, IsInState, AreAcked, AccountOk, IsRecovered, ChannelOk, LiveOk, EndOk, BookOk, NodeOk, Holds}
+use Rattle.channel_laws.specs.Facts.{makes, IsRenewed, IsPart, IsInState, AreAcked, AccountOk, IsRecovered, ChannelOk, LiveOk, EndOk, BookOk, NodeOk, Holds, IsSpelledIn}
 use Rattle.channel_laws.proofs.Anew.{Begins, first}
 use Rattle.channel_laws.proofs.Resetting.{live_grows, ids_on, book_on, other_node_on, begun_holds}
 use Rattle.channel_laws.proofs.Entering.{world_then, here_then, other_then, own_standing, other_standing, makes_then}
@@ -37,6 +39,8 @@ pub record IsBegun (w v : World) (h k : History) (n i e : ℕ) (new : Account) (
   pub undeclined : new.declined ≡ false
   pub current : is_current (mode_of (Some r)) ≡ true
   pub recovered : IsRecovered v k n i r
+  -- the sessions that it is to ask for
+  pub sessions : AllByRecursion (λ (p : Pair). (p.sender < 65536) × (p.receiver < 65536)) (sessions_of t.calls)
 
 module _ (w : World) (h k : History) (n : ℕ) (node : Node) (there : at w.nodes n ≡ Some node) (holds : Holds w h) (x : End) (i e : ℕ) (new : Account) (t : Tunnel)
     (at_t : at node.end.tunnels i ≡ Some t) (inactive : is_current (mode_of t.recovery) ≡ false) (send_from expect mark : ℕ) (r : Recovering)
@@ -81,7 +85,7 @@ module _ (w : World) (h k : History) (n : ℕ) (node : Node) (there : at w.nodes
         first_given = (let is = begun.first_given in let lt = begun.send_from_fits in omega (arith, is, lt));
         first_taken = (let is = begun.first_taken in let lt = begun.expect_fits in omega (arith, is, lt));
         from_none = λ z. (let lt = b.later in absurd (omega (arith, z, lt)));
-        spelled = subst (AllByRecursion IsSpelled) (sym b.given) tt;
+        spelled = subst (AllByRecursion (IsSpelledIn e)) (sym b.given) tt;
         told = subst (AllByRecursion (λ (l : Letter). TellsOwn i l.message)) (sym b.given) tt;
         taken = λ place y is lt. (let no = rw b.taken at is in absurd cc);
         ignored = λ place y is le. (let no = rw b.taken at is in absurd cc);
@@ -133,6 +137,10 @@ module _ (w : World) (h k : History) (n : ℕ) (node : Node) (there : at w.nodes
         recovery = λ q is. (let one : Some r ≡ Some q = is in let same : r ≡ q = cc in subst (IsRecovered v k n i) same begun.recovered);
         unattempted = λ early. (let three = live.established inactive in absurd (omega (arith, three, early)));
         calls = live.calls;
+        query = record {
+          none = λ z. (let now = epoch_now in let lt = b.later in absurd (omega (arith, now, lt, z)));
+          fit = begun.sessions;
+        };
       }
 
   -- ---- the node, and the rest

@@ -4,11 +4,12 @@ use Rattle.std.proofs.Common.{◌≡◌, inl, inr, ⊎_elim, ℕ, ◌<◌, true,
 use Rattle.id_table.specs.Ids.{at}
 use Rattle.id_table.specs.Order.{Ascends}
 use Rattle.end_model.specs.declared.tunnel.Call.{Call}
-use Rattle.end_model.specs.Tunnels.{Tunnel}
+use Rattle.end_model.specs.Tunnels.{Tunnel, no_query}
 use Rattle.world_model.specs.World.{World}
 use Rattle.connection_laws.specs.Facts.{AllWait, kept_letter}
 use Rattle.connection_laws.specs.Accounts as calm
 use Rattle.connection_laws.specs.Facts as calm_facts
+use Rattle.channel_laws.proofs.Spelled.{all_first, all_spelled}
 use Rattle.channel_laws.specs.Accounts.{Part, Unmade, Opener, Acceptor, Renewed, Account, History}
 use Rattle.channel_laws.specs.Facts.{IsMade, partner_in, AreJoined, HasStopped, IsOpener, IsAcceptor, IsPart, AccountOk, IsAnswered, IsInState, AreAcked, ChannelOk}
 use Rattle.channel_laws.proofs.Linked.{renewed_of}
@@ -132,7 +133,7 @@ module _ (w : World) (h : History) (n i : ℕ) (ok : AccountOk w h n i 0 (h.acco
     node = λ made. ok.node (made_from a made);
     peer = ok.peer;
     remote = ok.remote;
-    spelled = ok.spelled;
+    spelled = all_first a.given ok.spelled;
     told = ok.told;
     taken = λ place t found lt.
         (let q = ok.taken place t found lt in
@@ -175,7 +176,7 @@ module _ (w : World) (h : History) (n i : ℕ) (ok : AccountOk w h n i 0 (h.acco
       first_given = omega (arith, first_given);
       first_taken = omega (arith, first_taken);
       from_none = λ z. (first_given, first_taken);
-      spelled = now.spelled;
+      spelled = all_spelled 0 b.given now.spelled;
       told = now.told;
       taken = λ place t found lt.
           (let q = now.taken place t found lt in
@@ -188,9 +189,9 @@ module _ (w : World) (h : History) (n i : ℕ) (ok : AccountOk w h n i 0 (h.acco
 
 -- ---- live tunnels
 
--- without its recovery tunnel, which has reset it
+-- without its recovery tunnel, which has reset it, and without a query; one in epoch 0 asks for nothing
 abbrev pub bare : Tunnel → Tunnel
-bare t = record t { recovery = None }
+bare t = record t { recovery = None; query = no_query }
 
 state_to : (h : History) (n i : ℕ) (a : Account) (t : Tunnel) (p : Part) → IsInState h.accounts i 0 a t p → (p ≡ Renewed → ⊥)
     → calm_facts.IsInState (calm_of h) i (calm_account a) (bare t) (calm_part p)
@@ -257,6 +258,7 @@ live_to h n i t other first_given first_taken local calls order c =
       calls = calls;
       order = order;
       recovery = refl;
+      query = refl;
     }
 
 pub live_from : (h : History) (n i : ℕ) (t : Tunnel) → (h.accounts n i 0).first_given ≡ 0 → (h.accounts n i 0).first_taken ≡ 0

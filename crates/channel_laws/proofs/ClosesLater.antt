@@ -33,12 +33,12 @@ use Rattle.step_laws.specs.Codes.{stop_codes_fit}
 use Rattle.step_laws.specs.Letters.{Letter}
 use Rattle.step_laws.specs.Moves.{with_tunnel, with_letter, without_calls, WhyCloses, ByOperator, ByLetter}
 use Rattle.frame_laws.specs.Codecs.{Codecs}
-use Rattle.connection_laws.specs.Facts.{IsNoOpening, IsSpelled, TellsOwn, kept_letter}
+use Rattle.connection_laws.specs.Facts.{IsNoOpening, TellsOwn, kept_letter}
 use Rattle.connection_laws.proofs.Acknowledging.{kept_on}
 use Rattle.connection_laws.proofs.Numbers.{IsCount, is_count, IsWithout, without_count}
 use Rattle.connection_laws.proofs.States.{not_closed, closes_open}
 use Rattle.channel_laws.specs.Accounts.{Renewed, Taken, Account, heeded, History, after, entered_by}
-use Rattle.channel_laws.specs.Facts.{IsOpen, IsClosed, IsShut, AreTaken, AreIgnored, IsRenewed, ChannelOk, partner_in, Holds}
+use Rattle.channel_laws.specs.Facts.{IsOpen, IsClosed, IsShut, AreTaken, AreIgnored, IsRenewed, ChannelOk, partner_in, Holds, QueryOk, IsSpelledIn, LiveOk, EndOk, BookOk, NodeOk}
 use Rattle.channel_laws.specs.Recoveries.{WrittenIsRead, WrittenHasRoom}
 use Rattle.channel_laws.specs.Steps.{with_end, moves_on, IsMoved}
 use Rattle.channel_laws.proofs.Alone.{puts_so}
@@ -70,6 +70,7 @@ pub record ShutsDown (t u : Tunnel) (more : List Letter) (count : ℕ) : Type 0 
   pub outstanding : u.control.channel.window.outstanding ≤ u.control.channel.window.queued
   pub taken : u.control.channel.inbox.taken ≡ t.control.channel.inbox.taken + count
   pub recovery : u.recovery ≡ t.recovery
+  pub query : u.query ≡ t.query
 
 -- what is found in a list that nothing was added to
 still_found : {X : Type 0} (xs : List X) (k : ℕ) (x : X) → slice_get (xs ++ []) k ≡ Some x → slice_get xs k ≡ Some x
@@ -94,6 +95,12 @@ module _ (w : World) (h : History) (n : ℕ) (node : Node) (sender : Option Send
   abbrev b : Account
   b = changes_by more tks (Some count) a
 
+  both_ok : EndOk w h n node.end × BookOk h n node.checkpoint.book
+  both_ok = subst (NodeOk w h n) k.there (k.holds.nodes n)
+
+  live_there : LiveOk w h n i t
+  live_there = both_ok.0.live i t there
+
   is_closed_now : IsClosed b
   is_closed_now = let all = length-append a.taken tks in (count, refl, omega (arith, few, all))
 
@@ -106,7 +113,8 @@ module _ (w : World) (h : History) (n : ℕ) (node : Node) (sender : Option Send
       ∙ (sym (map-append kept_letter (drop ok.acked a.given) more)
       ∙ ap (λ (ls : List Letter). map kept_letter ls) (sym (drop-append-le ok.acked a.given more le))))
 
-  pub shuts_hold : length a.taken + length tks ≤ length (partner_in h.accounts (epoch_of w n i) (h.accounts n i (epoch_of w n i))).given → AllByRecursion IsSpelled more
+  pub shuts_hold : length a.taken + length tks ≤ length (partner_in h.accounts (epoch_of w n i) (h.accounts n i (epoch_of w n i))).given
+      → AllByRecursion (IsSpelledIn (epoch_of w n i)) more
       → AllByRecursion (λ (l : Letter). IsNoOpening l.message) more
       → AllByRecursion (λ (l : Letter). TellsOwn i l.message) more → count ≤ heeded (h.accounts n i (epoch_of w n i))
       → AreIgnored (changes_by more tks (Some count) (h.accounts n i (epoch_of w n i))) → Puts node.end x i u → x.tunnel_ids ≡ node.end.tunnel_ids → Holds v (after h d)
@@ -141,6 +149,7 @@ module _ (w : World) (h : History) (n : ℕ) (node : Node) (sender : Option Send
         ignored = ignored;
         calls = no_calls u downs.none;
         recovery = downs.recovery;
+        query = subst (QueryOk e) (sym downs.query) live_there.query;
         puts = puts;
         ids = ids;
       })
@@ -207,7 +216,8 @@ module _ (codecs : Codecs) (again : WrittenIsRead) (room : WrittenHasRoom) (clas
       ⊎_elim
       (λ (q : (state_number t.control.state ≡ 3) × IsOpen (h.accounts n m.tunnel (epoch_of w n m.tunnel))).
       takes_hold codecs again room classes w h n node sender moment ev mv x d k t o.there o.current later plain v refl alike o.letter o.next m.taken o.taken
-      [] u (took_goes h.accounts n i e a t channel fits q.0 t.calls live.calls) q.0 (takes_only d n node.end.role sender mv m.taken a k.deed) tt tt tt tt puts ids)
+      [] u (took_goes h.accounts n i e a t channel fits q.0 t.calls live.calls) q.0
+      (takes_only d n node.end.role sender mv m.taken a k.deed) tt tt tt tt puts ids live.query)
       (λ (q : IsShut (h.accounts n m.tunnel (epoch_of w n m.tunnel)) t).
       let count = q.1.0 in
       let becomes : entered_by d mv a ≡ changes_by [] (tk ∷ []) (Some count) a =
@@ -233,6 +243,7 @@ module _ (codecs : Codecs) (again : WrittenIsRead) (room : WrittenHasRoom) (clas
         outstanding = out;
         taken = omega (arith, fits);
         recovery = refl;
+        query = refl;
       })
       (only_there codecs again room classes w h n node sender moment ev mv x d k t o.there o.current later plain v refl alike [] (tk ∷ []) (Some count) becomes (inr (sym q.1.1)))
       (is_so codecs again room classes w h n node sender moment ev mv x d k t o.there o.current later plain v refl alike [] (tk ∷ []) (Some count) becomes (inr (sym q.1.1)))
@@ -288,6 +299,7 @@ module _ (codecs : Codecs) (again : WrittenIsRead) (room : WrittenHasRoom) (clas
         outstanding = out;
         taken = omega (arith, fits);
         recovery = refl;
+        query = refl;
       })
       (only_there codecs again room classes w h n node sender moment ev mv x d k t o.there o.current later plain v refl alike [] (tk ∷ []) (Some count) becomes (inl open_is))
       (is_so codecs again room classes w h n node sender moment ev mv x d k t o.there o.current later plain v refl alike [] (tk ∷ []) (Some count) becomes (inl open_is))
@@ -347,11 +359,18 @@ module _ (codecs : Codecs) (again : WrittenIsRead) (room : WrittenHasRoom) (clas
         outstanding = omega (arith, out);
         taken = omega arith;
         recovery = refl;
+        query = refl;
       })
       (only_there codecs again room classes w h n node sender moment ev mv x d k t o.there o.current later plain v refl alike (last ∷ []) [] (Some count) becomes (inl open_is))
       (is_so codecs again room classes w h n node sender moment ev mv x d k t o.there o.current later plain v refl alike (last ∷ []) [] (Some count) becomes (inl open_is))
-      (omega (arith, here))
-      (record { written = ((k.holds.accounts n i e).id (λ z. (let two = sym part ∙ z in absurd cc)), codes.0, codes.1); hides = tt; session = omega arith }, tt)
+      (omega (arith, here)) (
+        inl (record {
+          written = ((k.holds.accounts n i e).id (λ z. (let two = sym part ∙ z in absurd cc)), codes.0, codes.1);
+          hides = tt;
+          session = omega arith;
+        }),
+        tt,
+      )
       (tt, tt) (refl, tt) (omega (arith, heeds))
       (λ place y found le. (let within = slice_get_within a.taken place y (still_found a.taken place y found) in absurd (omega (arith, within, le))))
       (puts_so node.end x (without_calls node.end i s t.calls) i u o.after (record { config = refl; role = refl; tunnels = refl }))
@@ -416,6 +435,7 @@ module _ (codecs : Codecs) (again : WrittenIsRead) (room : WrittenHasRoom) (clas
         ignored = subst AreIgnored same (k.holds.accounts n i e).ignored;
         calls = calls_put t.calls m.session call live.calls (rw (rung_remote node.end.role m.subscriber moment) (omega arith));
         recovery = refl;
+        query = live.query;
         puts = puts_so node.end x (record (with_tunnel node.end i u) { session_ids = after_id node.end.session_ids; calls = put node.end.calls m.session (new_place m.tunnel) }) i u o.after
             (record { config = refl; role = refl; tunnels = refl });
         ids = ap (λ (y : End). y.tunnel_ids) o.after;
@@ -495,6 +515,7 @@ module _ (codecs : Codecs) (again : WrittenIsRead) (room : WrittenHasRoom) (clas
         ignored = subst AreIgnored same (k.holds.accounts n i e).ignored;
         calls = live.calls;
         recovery = refl;
+        query = live.query;
         puts = puts_so node.end x (with_tunnel node.end i u) i u o.after (record { config = refl; role = refl; tunnels = refl });
         ids = ap (λ (y : End). y.tunnel_ids) o.after;
       })

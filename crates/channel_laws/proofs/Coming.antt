@@ -106,7 +106,9 @@ module _ (w : World) (h : History) (holds : Holds w h) where
           packet = is_packet.packet;
           o = o;
           copy = copy;
-          read = subst (CopyRead a o copy.tunnel k.header) (sym is_packet.bytes_are) (copy_read codecs a is_packet.packet o is_packet.secret k.header ok.remote ok.spelled copy read);
+          read = subst (CopyRead a o copy.tunnel k.header) (sym is_packet.bytes_are)
+              (copy_read codecs again room is_packet.packet.epoch a is_packet.packet o is_packet.secret k.header ok.remote ok.spelled copy
+              read);
           sender_is = is_packet.sender_is ∙ ap (λ q. sender_of is_packet.packet.from q) is;
           from = is_packet.ok.from;
           to = is_packet.to;

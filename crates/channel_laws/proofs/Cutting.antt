@@ -22,6 +22,7 @@ use Rattle.channel_laws.specs.Accounts.{Part, Unmade, Opener, Acceptor, Renewed,
 use Rattle.channel_laws.specs.Facts.{IsMade, partner_in, IsOpen, IsShut, IsInState, IsRenewed, ChannelOk, LiveOk, Holds}
 use Rattle.channel_laws.specs.Recoveries.{WrittenIsRead, WrittenHasRoom}
 use Rattle.channel_laws.specs.Steps.{Comes}
+use Rattle.channel_laws.proofs.Spelled.{letter_same}
 use Rattle.channel_laws.proofs.Coming.{FromTunnel, OfNoTunnel, OfRecovery, heard}
 use Rattle.channel_laws.proofs.Linked.{part_cases, opener_of, acceptor_of, renewed_of, first_or_later}
 use Rattle.channel_laws.proofs.Naming.{copy_names}
@@ -153,7 +154,7 @@ module _ (w : World) (h : History) (holds : Holds w h) (n : ℕ) (e : End) (send
   pub replies : Codecs → (o : Opening) → message_in (body_of bytes came.header) ≡ Ok (Sccrp o) → ((h.accounts q j 0).part ≡ Acceptor) × (o.tunnel ≡ j)
   replies codecs o said = ⊎_elim
       (λ (l : IsLetterRead (a u) f.o came.header bytes).
-      let message = read_same l.letter.message (body_of bytes came.header) l.reads (Sccrp o) said tt in
+      let message = letter_same l.letter (body_of bytes came.header) l.reads (Sccrp o) said tt in
       let opens : IsNoOpening l.letter.message → ⊥ = (λ k. subst IsNoOpening message k) in
       ⊎_elim
       (λ (zero : u ≡ 0).

@@ -13,7 +13,7 @@ use Rattle.end_model.specs.End.{End}
 use Rattle.world_model.specs.declared.standing.Standing.{Standing}
 use Rattle.world_model.specs.World.{World, Node, Sender, Deed, epoch_of, moved}
 use Rattle.channel_laws.specs.Accounts.{Part, Unmade, Opener, Acceptor, Renewed, Account, no_account, History, about, declines_of, declined_by, declined_in, entered_by, attempts_by, answers_by, after}
-use Rattle.channel_laws.specs.Facts.{IsMade, partner_in, AreTaken, IsOpener, IsPart, IsAnswered, IsInState, AreAcked, KnowsBy, ByLetter, ByRecord, AccountOk, ChannelOk, LiveOk, IdsOk, EndOk, BookOk, NodeOk, Holds}
+use Rattle.channel_laws.specs.Facts.{IsMade, partner_in, AreTaken, IsOpener, IsPart, IsAnswered, IsInState, AreAcked, KnowsBy, ByLetter, ByRecord, AccountOk, ChannelOk, LiveOk, IdsOk, EndOk, BookOk, NodeOk, Holds, QueryOk}
 use Rattle.channel_laws.specs.Steps.{with_end, moves_on, IsMoved}
 use Rattle.channel_laws.proofs.Entering.{base_here, base_other, base_same, base_makes}
 use Rattle.channel_laws.proofs.Making.{SameNode, same_node}
@@ -430,6 +430,7 @@ module _ (w : World) (h : History) (n : ℕ) (node : Node) (d : Deed) (m : Decli
         recovery = λ y is_so. recovered_later w v h g q r 0 only holds there_node there_node.end alike_there late settled there_is joined account_there q r live.made y (live.recovery y is_so);
         unattempted = λ early c y found. live.unattempted early c y (sym (attempts_same h d m is q c) ∙ found);
         calls = live.calls;
+        query = subst (λ u. QueryOk u t.query) (sym epochs) live.query;
       }
 
     live_by : (j : ℕ) (t : Tunnel) → LiveOk w h q j t → LiveOk v g q j t

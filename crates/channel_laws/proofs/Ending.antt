@@ -4,6 +4,7 @@ use Rattle.std.proofs.lemmas.Bool.{true≢false, eqb-true}
 use Rattle.std.specs.Prelude.{is_some, if◌then◌else◌, ◌==◌, ◌&&◌, unwrap_or}
 use Rattle.std.specs.List.{AllByRecursion}
 use Rattle.id_source.specs.Spaces.{draw_is}
+use Rattle.session_book.specs.declared.record.Record.TheVariants.{CallDown}
 use Rattle.id_table.specs.Ids.{at, put, ids_of, at-none}
 use Rattle.id_table.specs.Order.{Ascends, at_new, at_other, same_or_not}
 use Rattle.recv_window.specs.Window.{ClassIsTrue}
@@ -190,17 +191,19 @@ module _ (laws : StepLaws) (any : (m : Move) → IsOfNoStart m → Keeps m) (cod
 
   abbrev pub IsAmid : List Move → End → World → History → Type 0
   IsAmid made x v g =
-      Amid any codecs J n sender moment read along number w b0 e0 s.end c0 fit0 book0 s.moves starts is_chain.chain top limit (omega arith) (omega arith) (omega (arith, room)) few made x v g
+      Amid any codecs laws.again laws.has_room J n sender moment read along number w b0 e0 s.end c0 fit0 book0 s.moves starts is_chain.chain
+      top limit (omega arith) (omega arith) (omega (arith, room)) few made x v g
 
   abbrev pub IsLed : World → History → List Move → End → History → Type 0
   IsLed v g made x k1 =
-      Led any codecs J n sender moment read along number w b0 e0 s.end c0 fit0 book0 s.moves starts is_chain.chain top limit (omega arith) (omega arith) (omega (arith, room)) few v g made x k1
+      Led any codecs laws.again laws.has_room J n sender moment read along number w b0 e0 s.end c0 fit0 book0 s.moves starts is_chain.chain
+      top limit (omega arith) (omega arith) (omega (arith, room)) few v g made x k1
 
   -- what comes, before its moves
   pub comes0 : Comes w h n e0 sender read
   comes0 =
       subst (λ (q : End). Comes w h n q sender (uncovered_event q.config.secret ev)) (sym finds.end)
-      (comes_first codecs classes w h holds (along.knows w h [] holds first) n old was ev sender comes)
+      (comes_first codecs laws.again laws.has_room classes w h holds (along.knows w h [] holds first) n old was ev sender comes)
 
   amid0 : IsAmid [] e0 w h
   unfolding moved_all
@@ -230,14 +233,16 @@ module _ (laws : StepLaws) (any : (m : Move) → IsOfNoStart m → Keeps m) (cod
   pub led_to : (made rest : List Move) (x : End) → s.moves ≡ made ++ rest → Chain moment read e0 made x → Chain moment read x rest s.end
       → IsLed w h made x (history_from (map deed_in made) h)
   led_to made rest x are comes_so goes =
-      leads any codecs J n sender moment read along number w b0 e0 s.end c0 fit0 book0 s.moves starts is_chain.chain top limit (omega arith) (omega arith) (omega (arith, room)) few
+      leads any codecs laws.again laws.has_room J n sender moment read along number w b0 e0 s.end c0 fit0 book0 s.moves starts
+      is_chain.chain top limit (omega arith) (omega arith) (omega (arith, room)) few
       made [] rest e0 x w h amid0 are refl comes_so goes
 
   -- and from there on all of them
   pub led_on : (made rest : List Move) (x : End) (v : World) (g : History) → IsAmid made x v g → s.moves ≡ made ++ rest → Chain moment read e0 made x → Chain moment read x rest s.end
       → IsLed v g (made ++ rest) s.end (history_from (map deed_in rest) g)
   led_on made rest x v g amid are comes_so goes =
-      leads any codecs J n sender moment read along number w b0 e0 s.end c0 fit0 book0 s.moves starts is_chain.chain top limit (omega arith) (omega arith) (omega (arith, room)) few
+      leads any codecs laws.again laws.has_room J n sender moment read along number w b0 e0 s.end c0 fit0 book0 s.moves starts
+      is_chain.chain top limit (omega arith) (omega arith) (omega (arith, room)) few
       rest made [] x s.end v g amid (are ∙ ap (λ l. made ++ l) (sym (append-nil rest))) comes_so goes refl
 
   abbrev pub h1 : History
@@ -288,7 +293,7 @@ module _ (laws : StepLaws) (any : (m : Move) → IsOfNoStart m → Keeps m) (cod
       one_back later = by (does_count x y moment read m start order does i later.tunnel later.there later.active)
         where
           order : Ascends x.tunnels
-          order = (fits_there any codecs J n sender moment read along number w b0 e0 s.end c0 fit0 book0 s.moves starts is_chain.chain top limit (omega arith) (omega arith) (omega (arith, room)) few
+          order = (fits_there any codecs laws.again laws.has_room J n sender moment read along number w b0 e0 s.end c0 fit0 book0 s.moves starts is_chain.chain top limit (omega arith) (omega arith) (omega (arith, room)) few
               pre (m ∷ rest) x are comes_so).tables.order
 
           by : Counted x moment read m i later.tunnel → WasEarly x i
@@ -491,6 +496,10 @@ module _ (laws : StepLaws) (any : (m : Move) → IsOfNoStart m → Keeps m) (cod
   marks_bring true q mark = (tt, tt)
   marks_bring false q mark = tt
 
+  ends_bring : (ss : List ℕ) → AllByRecursion (Brings (BookedOk h n)) (map (λ q. CallDown q) ss)
+  ends_bring [] = tt
+  ends_bring (q ∷ ss) = (tt, ends_bring ss)
+
   pub moves_bring : (m : Move) → Among m s.moves → AllByRecursion (Brings (BookedOk h n)) (records_of m)
   unfolding records_of
   moves_bring (move.Connected c) among = (connected_booked c among, tt)
@@ -506,6 +515,7 @@ module _ (laws : StepLaws) (any : (m : Move) → IsOfNoStart m → Keeps m) (cod
   moves_bring (move.Forgot m) among = (tt, tt)
   moves_bring (move.Froze m) among = marks_bring m.marked m.tunnel m.asked
   moves_bring (move.ResetAttempting m) among = marks_bring m.marked m.tunnel m.draw
+  moves_bring (move.TookAnswer m) among = ends_bring m.ended
   moves_bring m among = tt
 
   -- ---- where a stop cuts it off
@@ -672,7 +682,7 @@ module _ (laws : StepLaws) (any : (m : Move) → IsOfNoStart m → Keeps m) (cod
         where
           order : (q : End) (part left : List Move) → rest ≡ part ++ left → Chain moment read y part q → Ascends q.tunnels
           order q part left is from =
-              (fits_there any codecs J n sender moment read along number w b0 e0 s.end c0 fit0 book0 s.moves starts is_chain.chain top limit (omega arith) (omega arith) (omega (arith, room)) few
+              (fits_there any codecs laws.again laws.has_room J n sender moment read along number w b0 e0 s.end c0 fit0 book0 s.moves starts is_chain.chain top limit (omega arith) (omega arith) (omega (arith, room)) few
               (made ++ part) left q (are ∙ (ap (λ l. made ++ l) is ∙ sym (append_assoc made part left))) (chain_both moment read e0 y q made part comes_so from)).tables.order
 
           never : IsInactive y i → ⊥

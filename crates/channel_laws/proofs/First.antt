@@ -108,7 +108,8 @@ module _ (laws : calm_steps.MovesKeep) (codecs : Codecs) (again : WrittenIsRead)
         flags = o.flags;
         after = refl;
       })
-      u (at_new e0.tunnels i (bare u)) (λ y. refl) (takes_extends d m.taken a a (extends_same a)) refl (λ known is. is) puts (ap (λ (e : End). e.tunnel_ids) o.after) refl
+      u (at_new e0.tunnels i (bare u)) (λ y. refl) (takes_extends d m.taken a a (extends_same a)) refl (λ known is. is) puts
+      (ap (λ (e : End). e.tunnel_ids) o.after) refl refl
       (λ lt. absurd (omega (arith, lt)))
       (still_alone w v h (after h d) n node.end x (both_ok laws codecs again room w h n node sender moment ev mv x d k t o.there o.current zero).0 i t u puts o.there refl refl)
 
@@ -149,7 +150,8 @@ module _ (laws : calm_steps.MovesKeep) (codecs : Codecs) (again : WrittenIsRead)
         booked = o.booked;
         after = refl;
       })
-      u (at_new e0.tunnels i (bare u)) (λ y. refl) (takes_extends d m.taken a a (extends_same a)) refl (λ known is. is) puts (ap (λ (e : End). e.tunnel_ids) o.after) refl
+      u (at_new e0.tunnels i (bare u)) (λ y. refl) (takes_extends d m.taken a a (extends_same a)) refl (λ known is. is) puts
+      (ap (λ (e : End). e.tunnel_ids) o.after) refl refl
       (λ lt. lt)
       (still_alone w v h (after h d) n node.end x (both_ok laws codecs again room w h n node sender moment ev mv x d k t o.there o.current zero).0 i t u puts o.there refl refl)
 
@@ -189,7 +191,8 @@ module _ (laws : calm_steps.MovesKeep) (codecs : Codecs) (again : WrittenIsRead)
         block = o.block;
         after = refl;
       })
-      u (at_new e0.tunnels i (bare u)) (λ y. refl) (takes_extends d m.taken a a (extends_same a)) refl (λ known is. is) puts (ap (λ (e : End). e.tunnel_ids) o.after) refl
+      u (at_new e0.tunnels i (bare u)) (λ y. refl) (takes_extends d m.taken a a (extends_same a)) refl (λ known is. is) puts
+      (ap (λ (e : End). e.tunnel_ids) o.after) refl refl
       (λ lt. lt)
       (still_alone w v h (after h d) n node.end x (both_ok laws codecs again room w h n node sender moment ev mv x d k t o.there o.current zero).0 i t u puts o.there refl refl)
 
@@ -228,7 +231,8 @@ module _ (laws : calm_steps.MovesKeep) (codecs : Codecs) (again : WrittenIsRead)
         given = o.given;
         after = refl;
       })
-      u (at_new e0.tunnels i (bare u)) (λ y. refl) (gives_extends d a _ (takes_extends d m.taken a a (extends_same a))) refl (λ known is. is) puts (ap (λ (e : End). e.tunnel_ids) o.after) refl
+      u (at_new e0.tunnels i (bare u)) (λ y. refl) (gives_extends d a _ (takes_extends d m.taken a a (extends_same a))) refl
+      (λ known is. is) puts (ap (λ (e : End). e.tunnel_ids) o.after) refl refl
       (λ lt. lt)
       (still_alone w v h (after h d) n node.end x (both_ok laws codecs again room w h n node sender moment ev mv x d k t o.there o.current zero).0 i t u puts o.there refl refl)
 
@@ -261,7 +265,8 @@ module _ (laws : calm_steps.MovesKeep) (codecs : Codecs) (again : WrittenIsRead)
         given = o.given;
         after = refl;
       })
-      u (at_new e0.tunnels i (bare u)) (λ y. refl) (gives_extends d a _ (takes_extends d m.taken a a (extends_same a))) refl (λ known is. is) puts (ap (λ (e : End). e.tunnel_ids) o.after) refl
+      u (at_new e0.tunnels i (bare u)) (λ y. refl) (gives_extends d a _ (takes_extends d m.taken a a (extends_same a))) refl
+      (λ known is. is) puts (ap (λ (e : End). e.tunnel_ids) o.after) refl refl
       (λ lt. lt)
       (still_alone w v h (after h d) n node.end x (both_ok laws codecs again room w h n node sender moment ev mv x d k t o.there o.current zero).0 i t u puts o.there refl refl)
 
@@ -293,7 +298,8 @@ module _ (laws : calm_steps.MovesKeep) (codecs : Codecs) (again : WrittenIsRead)
         spare = o.spare;
         after = refl;
       })
-      u (at_new e0.tunnels i (bare u)) (λ y. refl) (takes_extends d m.taken a a (extends_same a)) refl (λ known is. is) puts (ap (λ (e : End). e.tunnel_ids) o.after) refl
+      u (at_new e0.tunnels i (bare u)) (λ y. refl) (takes_extends d m.taken a a (extends_same a)) refl (λ known is. is) puts
+      (ap (λ (e : End). e.tunnel_ids) o.after) refl refl
       (λ lt. lt)
       (still_alone w v h (after h d) n node.end x (both_ok laws codecs again room w h n node sender moment ev mv x d k t o.there o.current zero).0 i t u puts o.there refl refl)
 
@@ -316,6 +322,7 @@ module _ (laws : calm_steps.MovesKeep) (codecs : Codecs) (again : WrittenIsRead)
       (with_tunnel e0 i (bare u))
       (record { tunnel = bare t; there = alone_there node.end i t; current = refl; tells = o.tells; after = refl })
       u (at_new e0.tunnels i (bare u)) (λ y. refl) (extends_same a) refl (λ known is. is) puts (ap (λ (e : End). e.tunnel_ids) o.after) refl
+      refl
       (λ lt. lt)
       (still_alone w v h (after h d) n node.end x (both_ok laws codecs again room w h n node sender moment ev mv x d k t o.there o.current zero).0 i t u puts o.there refl refl)
 
@@ -359,7 +366,8 @@ module _ (laws : calm_steps.MovesKeep) (codecs : Codecs) (again : WrittenIsRead)
         given = o.given;
         after = refl;
       })
-      u (at_new e0.tunnels i (bare u)) (λ y. refl) (gives_extends d a _ (takes_extends d m.taken a a (extends_same a))) refl (λ known is. is) puts (ap (λ (e : End). e.tunnel_ids) o.after) refl
+      u (at_new e0.tunnels i (bare u)) (λ y. refl) (gives_extends d a _ (takes_extends d m.taken a a (extends_same a))) refl
+      (λ known is. is) puts (ap (λ (e : End). e.tunnel_ids) o.after) refl refl
       (λ lt. lt)
       (still_alone w v h (after h d) n node.end x (both_ok laws codecs again room w h n node sender moment ev mv x d k t o.there o.current zero).0 i t u puts o.there refl refl)
 
@@ -395,6 +403,7 @@ module _ (laws : calm_steps.MovesKeep) (codecs : Codecs) (again : WrittenIsRead)
         after = refl;
       })
       u (at_new e0.tunnels i (bare u)) (λ y. refl) (extends_same a) refl (λ known is. is) puts (ap (λ (e : End). e.tunnel_ids) o.after) refl
+      refl
       (λ lt. lt)
       (still_alone w v h (after h d) n node.end x (both_ok laws codecs again room w h n node sender moment ev mv x d k t o.there o.current zero).0 i t u puts o.there refl refl)
 
@@ -430,7 +439,7 @@ module _ (laws : calm_steps.MovesKeep) (codecs : Codecs) (again : WrittenIsRead)
         there = alone_there node.end i t;
         current = refl;
         on = o.on;
-        why = closes_bare node.end.config.secret t ev o.on m o.why;
+        why = closes_bare node.end.config.secret t ev o.on m (live.query.none zero) o.why;
         row = o.row;
         booked = o.booked;
         room = o.room;
@@ -440,7 +449,7 @@ module _ (laws : calm_steps.MovesKeep) (codecs : Codecs) (again : WrittenIsRead)
       u (at_new e0.tunnels i (bare u)) (λ y. refl)
       (gives_extends d a _ (turns_extends a m.remote (Some (length a.taken)) (inr (same ∙ channel.remote)) (inl is_open))) refl
       (λ known is. (let none : length a.taken ≡ 0 = cc in absurd (not_early i k.holds live.made known none)))
-      puts (ap (λ (e : End). e.tunnel_ids) o.after) refl
+      puts (ap (λ (e : End). e.tunnel_ids) o.after) refl refl
       (λ lt. absurd (omega (arith, lt)))
       (still_alone w v h (after h d) n node.end x (both_ok laws codecs again room w h n node sender moment ev mv x d k t o.there o.current zero).0 i t u puts o.there refl same)
     where
@@ -486,6 +495,6 @@ module _ (laws : calm_steps.MovesKeep) (codecs : Codecs) (again : WrittenIsRead)
       u (at_new e0.tunnels i (bare u)) (λ y. refl)
       (takes_extends d m.taken a _ (turns_extends a a.remote (Some (length a.taken)) (inr refl) (inl is_open))) refl
       (λ known is. (let none : length a.taken ≡ 0 = cc in absurd (not_early i k.holds live.made known none)))
-      puts (ap (λ (e : End). e.tunnel_ids) o.after) refl
+      puts (ap (λ (e : End). e.tunnel_ids) o.after) refl refl
       (λ lt. absurd (omega (arith, lt)))
       (still_alone w v h (after h d) n node.end x (both_ok laws codecs again room w h n node sender moment ev mv x d k t o.there o.current zero).0 i t u puts o.there refl refl)

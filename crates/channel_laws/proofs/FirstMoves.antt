@@ -1,11 +1,11 @@
 -- A move of a live tunnel that is in epoch 0 keeps what holds, since it does in the words of connection_laws.
-use Rattle.std.proofs.Common.{◌≡◌, ◌⊎◌, inl, inr, ⊎_elim, ℕ, ◌+◌, ◌<◌, ◌≤◌, Bool, true, false, List, [], length, refl, sym, ap, ap₂, ◌∙◌, subst, Option, Some, arith}
+use Rattle.std.proofs.Common.{◌≡◌, ◌⊎◌, inl, inr, ⊎_elim, ℕ, ◌+◌, ◌<◌, ◌≤◌, Bool, true, false, List, [], length, refl, sym, ap, ap₂, ◌∙◌, subst, Option, Some, Ok, arith}
 use Rattle.std.proofs.lemmas.Bool.{true≢false, eq-eqb}
 use Rattle.std.proofs.lemmas.Option.{none-some}
 use Rattle.std.specs.Prelude.{is_some, slice_get, ◌^◌, ◌==◌, ◌&&◌, if◌then◌else◌}
 use Rattle.l2tp_header.specs.Spelling.{control_bytes}
 use Rattle.avp_codec.specs.Spelling.{spelling}
-use Rattle.control_message.specs.declared.message.Message.TheVariants.{StopCcn}
+use Rattle.control_message.specs.declared.message.Message.TheVariants.{StopCcn, Fsq}
 use Rattle.control_message.specs.Pairs.{pairs_of}
 use Rattle.id_table.specs.Ids.{at, put, at-none}
 use Rattle.id_table.specs.Order.{Ascends, ascends-put, found_put, same_or_not}
@@ -31,8 +31,12 @@ use Rattle.connection_laws.proofs.Hearing.{same_address}
 use Rattle.connection_laws.specs.Accounts as calm
 use Rattle.connection_laws.specs.Facts as calm_facts
 use Rattle.connection_laws.specs.Steps as calm_steps
+use Rattle.session_query.specs.Queries.{Asking}
+use Rattle.wire_base.specs.declared.pair.Pair.{Pair}
+use Rattle.connection_laws.proofs.AnyHeard.{none_asks_for_sessions}
+use Rattle.end_model.specs.Reading.{message_in}
 use Rattle.channel_laws.specs.Accounts.{Part, Unmade, Opener, Acceptor, Renewed, Account, History, about, declined_in, entered_by, after}
-use Rattle.channel_laws.specs.Facts.{IsMade, partner_in, IsOpen, IsClosed, IsShut, AreJoined, IsAcceptor, IsPart, AccountOk, IsInState, ChannelOk, LiveOk, IdsOk, EndOk, BookOk, NodeOk, Says, ALetter, Nothing, IsCopy, Holds}
+use Rattle.channel_laws.specs.Facts.{IsMade, partner_in, IsOpen, IsClosed, IsShut, AreJoined, IsAcceptor, IsPart, AccountOk, IsInState, ChannelOk, LiveOk, IdsOk, EndOk, BookOk, NodeOk, Says, ALetter, Nothing, IsCopy, Holds, QueryOk}
 use Rattle.channel_laws.specs.Recoveries.{WrittenIsRead, WrittenHasRoom}
 use Rattle.channel_laws.specs.Steps.{AreNear, moves_on, IsMoved}
 use Rattle.channel_laws.proofs.Linked.{acceptor_of, renewed_of}
@@ -45,7 +49,7 @@ use Rattle.channel_laws.proofs.Naming.{learned_made}
 use Rattle.channel_laws.proofs.Main.{not_recovery, named_by_stop}
 use Rattle.channel_laws.proofs.Calm.{calm_part, calm_account, calm_of, opener_from, account_to, account_from, bare, live_to, live_from}
 
--- the end that has one tunnel alone, without a recovery tunnel
+-- the end that has one tunnel alone, without a recovery tunnel, and without a query
 abbrev pub alone_in : End → ℕ → Tunnel → End
 alone_in e i t = record e { tunnels = put [] i (bare t) }
 
@@ -205,41 +209,55 @@ module _ (laws : calm_steps.MovesKeep) (codecs : Codecs) (again : WrittenIsRead)
 
   -- ---- the move, in the words of connection_laws
 
+  accounts_to : (p j : ℕ) → calm_facts.AccountOk (calm_of h) p j (calm_of h p j)
+  accounts_to p j = account_to w h p j (k.holds.accounts p j 0)
+
+  live_bare : calm_facts.LiveOk (calm_of h) n i (calm_of h n i) (bare t)
+  live_bare = live_to h n i t (none_renewed n i) from_none.0 from_none.1 live_zero.local live_zero.calls
+      (k.fit.tables.tunnels i t there).order channel_zero
+
+  one_there : (j : ℕ) (q : Tunnel) → at (put [] i (bare t)) j ≡ Some q → (j ≡ i) × (bare t ≡ q)
+  one_there j q at_j = ⊎_elim
+      (λ (s : (j ≡ i) × (bare t ≡ q)). s)
+      (λ s. absurd (none-some q (sym (at-none j) ∙ s.1)))
+      (found_put [] i (bare t) j q at_j)
+
+  alone_ascends : Ascends (put [] i (bare t))
+  unfolding Ascends
+  alone_ascends = ascends-put i (bare t) [] tt
+
+  end_to : calm_facts.EndOk (calm_of h) n (alone_in node.end i t)
+  end_to = record {
+    node = both_ok.0.node;
+    number = both_ok.0.number;
+    lns = both_ok.0.lns;
+    first = k.fit.tables.first_tunnel;
+    last = (let is = k.fit.tunnel_ids.last in omega (arith, is));
+    first_session = k.fit.tables.first_session;
+    last_session = (let is = k.fit.session_ids.last in omega (arith, is));
+    order = alone_ascends;
+    drawn = λ j made. both_ok.0.ids.tunnels j (λ none. made (ap calm_part none));
+    live = λ j q at_j. (let s = one_there j q at_j in
+        subst (λ z. calm_facts.LiveOk (calm_of h) n z (calm_of h n z) q) (sym s.0)
+        (subst (calm_facts.LiveOk (calm_of h) n i (calm_of h n i)) s.1 live_bare));
+    apart = λ j z p q at_j at_z peer remote some. (one_there j p at_j).0 ∙ sym (one_there z q at_z).0;
+  }
+
+  -- what comes asks for no sessions: the letters of epoch 0 don't
+  pub none_asked : (letter : Came) → ComesTo ev t.control letter → (pairs : List Pair) → message_in letter.body ≡ Ok (Fsq pairs) → ⊥
+  none_asked letter to pairs said =
+      none_asks_for_sessions codecs (calm_of h) n (alone_in node.end i t) sender ev
+      (record { accounts = accounts_to; end = end_to; comes = comes_zero letter to })
+      letter.peer letter.header.session pairs (record {
+        letter = letter;
+        came = to.came;
+        peer_is = refl;
+        says = record { session_is = refl; said = said };
+      })
+
   module _ (main : IsMain m) (plain : IsPlainDeed d) (v : World) (v_is : moves_on w n node m x ≡ v) (alike : IsAlike w v n node x)
       (comes : calm_facts.Comes (calm_of h) n (alone_in node.end (about m) t) sender ev)
       (x0 : End) (does : Does (alone_in node.end (about m) t) moment ev m x0) (u : Tunnel) (at_u : at x0.tunnels (about m) ≡ Some (bare u)) where
-    accounts_to : (p j : ℕ) → calm_facts.AccountOk (calm_of h) p j (calm_of h p j)
-    accounts_to p j = account_to w h p j (k.holds.accounts p j 0)
-
-    live_bare : calm_facts.LiveOk (calm_of h) n i (calm_of h n i) (bare t)
-    live_bare = live_to h n i t (none_renewed n i) from_none.0 from_none.1 live_zero.local live_zero.calls (k.fit.tables.tunnels i t there).order channel_zero
-
-    one_there : (j : ℕ) (q : Tunnel) → at (put [] i (bare t)) j ≡ Some q → (j ≡ i) × (bare t ≡ q)
-    one_there j q at_j = ⊎_elim
-        (λ (s : (j ≡ i) × (bare t ≡ q)). s)
-        (λ s. absurd (none-some q (sym (at-none j) ∙ s.1)))
-        (found_put [] i (bare t) j q at_j)
-
-    alone_ascends : Ascends (put [] i (bare t))
-    unfolding Ascends
-    alone_ascends = ascends-put i (bare t) [] tt
-
-    end_to : calm_facts.EndOk (calm_of h) n (alone_in node.end i t)
-    end_to = record {
-      node = both_ok.0.node;
-      number = both_ok.0.number;
-      lns = both_ok.0.lns;
-      first = k.fit.tables.first_tunnel;
-      last = (let is = k.fit.tunnel_ids.last in omega (arith, is));
-      first_session = k.fit.tables.first_session;
-      last_session = (let is = k.fit.session_ids.last in omega (arith, is));
-      order = alone_ascends;
-      drawn = λ j made. both_ok.0.ids.tunnels j (λ none. made (ap calm_part none));
-      live = λ j q at_j. (let s = one_there j q at_j in
-          subst (λ z. calm_facts.LiveOk (calm_of h) n z (calm_of h n z) q) (sym s.0) (subst (calm_facts.LiveOk (calm_of h) n i (calm_of h n i)) s.1 live_bare));
-      apart = λ j z p q at_j at_z peer remote some. (one_there j p at_j).0 ∙ sym (one_there z q at_z).0;
-    }
-
     moved_to : calm_facts.Within (calm_steps.after (calm_of h) d) n x0 sender ev
     moved_to = laws (calm_of h) n (alone_in node.end i t) x0 sender moment ev m d (record {
       within = record { accounts = accounts_to; end = end_to; comes = comes };
@@ -285,6 +303,7 @@ module _ (laws : calm_steps.MovesKeep) (codecs : Codecs) (again : WrittenIsRead)
           (undeclined : (entered_by d m (h.accounts n (about m) 0)).declined ≡ (h.accounts n (about m) 0).declined)
           (late_so : ((h.accounts n (about m) 0).remote ≡ 0 → ⊥) → (entered_by d m (h.accounts n (about m) 0)).closed ≡ Some 0 → (h.accounts n (about m) 0).closed ≡ Some 0)
           (puts : Puts node.end x (about m) u) (ids_same : x.tunnel_ids ≡ node.end.tunnel_ids) (recovery : u.recovery ≡ t.recovery)
+          (query : u.query ≡ t.query)
           (early_so : state_number u.control.state < 3 → state_number t.control.state < 3) where
         new_is : (after h d).accounts n i 0 ≡ entered_by d m a
         new_is = becomes_so h d n i 0 (entered_by d m a) k.deed.node_is (ap about k.deed.move_is) epoch_zero (ap (λ q. entered_by d q a) k.deed.move_is) plain
@@ -372,6 +391,8 @@ module _ (laws : calm_steps.MovesKeep) (codecs : Codecs) (again : WrittenIsRead)
           recovery = λ r is. recovered_later w v h (after h d) n i 0 only k.holds node x alike late settled k.there joined account n i live_zero.made r (live_zero.recovery r (sym recovery ∙ is));
           unattempted = λ early q r is. live_zero.unattempted (early_so early) q r (sym (only.attempts n q) ∙ is);
           calls = live_then.calls;
+          query = subst (λ (q : Asking). QueryOk (epoch_of v n i) q) (sym query)
+              (subst (λ e. QueryOk e t.query) (sym (ap (λ (s : Standing). s.epoch) (alike.standings n i))) live_zero.query);
         }
 
         ids_on : IdsOk (after h d) n x

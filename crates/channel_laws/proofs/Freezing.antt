@@ -31,8 +31,9 @@ use Rattle.frame_laws.specs.Written.{IsWritten as IsWrittenPlainly}
 use Rattle.frame_laws.specs.Plain.{IsReadAs, AsAMessage, AsAFault, message_there, no_message_there}
 use Rattle.book_laws.proofs.Finished.{finished_found}
 use Rattle.connection_laws.proofs.Hearing.{no_message, same_address}
+use Rattle.channel_laws.proofs.Spelled.{plainly_read}
 use Rattle.channel_laws.specs.Accounts.{Acceptor, Account, History, about, declined_in, declines_of, entered_by, after_deed, attempts_by, answers_by, after}
-use Rattle.channel_laws.specs.Facts.{IsMade, partner_in, makes, AreLinked, AnswerOk, AttemptOk, IsRecovered, LiveOk, IdsOk, EndOk, BookOk, NodeOk, StandingOk, SaysRecovery, AsksFor, Suggests, Confirms, Refuses, PacketOk, Holds}
+use Rattle.channel_laws.specs.Facts.{IsMade, partner_in, makes, AreLinked, AnswerOk, AttemptOk, IsRecovered, LiveOk, IdsOk, EndOk, BookOk, NodeOk, StandingOk, SaysRecovery, AsksFor, Suggests, Confirms, Refuses, PacketOk, Holds, QueryOk}
 use Rattle.channel_laws.specs.Recoveries.{WrittenIsRead, WrittenHasRoom}
 use Rattle.channel_laws.specs.Steps.{with_end, moves_on, IsMoved}
 use Rattle.channel_laws.proofs.Growing.{Grows, account_grows, answers_grow, packets_grow}
@@ -105,7 +106,10 @@ module _ (codecs : Codecs) (again : WrittenIsRead) (room : WrittenHasRoom) (w : 
   asked = ⊎_elim
       (λ (f : FromTunnel w h n node.end sender does.letter does.came.bytes). ⊎_elim
       (λ q.
-      let none = plain_unasked q.letter.message (body_of does.came.bytes does.letter.header) does.opening q.reads (ap message_in (sym does.came.body_is) ∙ does.said) in
+      let none = plain_unasked q.letter.message (body_of does.came.bytes does.letter.header) does.opening
+      (plainly_read q.letter (body_of does.came.bytes does.letter.header) q.reads (Sccrq does.opening)
+      (ap message_in (sym does.came.body_is) ∙ does.said) (λ z. z)).reads
+      (ap message_in (sym does.came.body_is) ∙ does.said) in
       let no = sym none ∙ does.named in absurd cc)
       (λ q. absurd (no_message codecs (Sccrq does.opening) (ap message_in (sym q.body) ∙ (ap message_in (sym does.came.body_is) ∙ does.said))))
       f.read.says)
@@ -391,6 +395,7 @@ module _ (codecs : Codecs) (again : WrittenIsRead) (room : WrittenHasRoom) (w : 
     learned = λ inactive. knows_own.learned;
     recovery = λ r is. (let same : r ≡ ByAnswer does.is.answering = (let a : does.recovery ≡ r = cc in sym a ∙ does.is.is) in subst (IsRecovered v later n i) (sym same) recovered);
     unattempted = λ early. (let three = does.open_is in absurd (omega (arith, three, early)));
+    query = subst (λ z. QueryOk z does.tunnel.query) (sym (epochs n i)) live.query;
     calls = λ s c there. live.calls s c (finished_found does.tunnel.calls (k.fit.tables.tunnels i does.tunnel does.there).order s c there);
   }
 

@@ -30,11 +30,12 @@ use Rattle.step_laws.specs.Letters.{Letter, letters_of}
 use Rattle.step_laws.specs.Moves.{with_tunnel, with_letter_as}
 use Rattle.frame_laws.specs.Codecs.{Codecs}
 use Rattle.frame_laws.specs.Plain.{number_hides}
-use Rattle.connection_laws.specs.Facts.{IsNoOpening, IsSpelled, TellsOwn, AllWait}
+use Rattle.connection_laws.specs.Facts.{IsNoOpening, TellsOwn, AllWait}
 use Rattle.connection_laws.proofs.States.{no_call, waits_untold}
 use Rattle.connection_laws.proofs.Written.{request_written}
+use Rattle.session_query.specs.Queries.{Asking}
 use Rattle.channel_laws.specs.Accounts.{Part, Unmade, Opener, Acceptor, Renewed, Account, History, about, declines_of, entered_by, gives_also, attempts_by, answers_by, after}
-use Rattle.channel_laws.specs.Facts.{Accounts, IsMade, partner_in, IsOpen, IsShut, IsInState, ChannelOk, LiveOk, EndOk, BookOk, NodeOk, Holds}
+use Rattle.channel_laws.specs.Facts.{Accounts, IsMade, partner_in, IsOpen, IsShut, IsInState, ChannelOk, LiveOk, EndOk, BookOk, NodeOk, Holds, QueryOk, IsSpelledIn}
 use Rattle.channel_laws.specs.Steps.{with_end, moves_on, IsMoved}
 use Rattle.channel_laws.proofs.Deeds.{here, others}
 use Rattle.channel_laws.proofs.Entering.{base_same}
@@ -66,15 +67,16 @@ module _ (h : History) (d : Deed) (n i e : ℕ) (new : Account) (node : d.node �
 
 -- ---- one letter is given
 
-abbrev pub with_one : Letter → List (ℕ × Call) → Tunnel → Tunnel
-with_one l calls t = record (with_letter_as l.session l.message l.hidden t) { calls = calls }
+abbrev pub with_one : Letter → List (ℕ × Call) → Asking → Tunnel → Tunnel
+with_one l calls q t = record (with_letter_as l.session l.message l.hidden t) { calls = calls; query = q }
 
 abbrev pub with_places : End → ℕ → Tunnel → List (ℕ × CallPlace) → End
 with_places e i u places = record (with_tunnel e i u) { calls = places }
 
 -- what a letter and the tunnel that is given it need
-pub record IsGiven (i : ℕ) (t : Tunnel) (l : Letter) (calls : List (ℕ × Call)) : Type 0 where
-  pub spelled : IsSpelled l
+pub record IsGiven (i e : ℕ) (t : Tunnel) (l : Letter) (calls : List (ℕ × Call)) (q : Asking) : Type 0 where
+  pub spelled : IsSpelledIn e l
+  pub query : QueryOk e q
   pub plain : IsNoOpening l.message
   pub told : TellsOwn i l.message
   pub room : has_room t.control ≡ true
@@ -105,10 +107,12 @@ module _ (w : World) (h : History) (n : ℕ) (node : Node) (sender : Option Send
   pub deed_epoch : d.epoch ≡ epoch_of w n (about m)
   deed_epoch = k.epoch ∙ (ap (λ q. epoch_of q n i) same ∙ ap (λ s. s.epoch) (base_same w n node k.there x n i))
 
-  pub gives_hold : (l : Letter) (calls : List (ℕ × Call)) (places : List (ℕ × CallPlace)) → x ≡ with_places node.end (about m) (with_one l calls t) places
-      → ((a : Account) → entered_by d m a ≡ gives_also d a) → letters_of node.end.role (config_of n 0 None false) m ≡ l ∷ [] → IsGiven (about m) t l calls
+  pub gives_hold : (l : Letter) (calls : List (ℕ × Call)) (q : Asking) (places : List (ℕ × CallPlace))
+      → x ≡ with_places node.end (about m) (with_one l calls q t) places
+      → ((a : Account) → entered_by d m a ≡ gives_also d a) → letters_of node.end.role (config_of n 0 None false) m ≡ l ∷ []
+      → IsGiven (about m) (epoch_of w n (about m)) t l calls q
       → Holds (moves_on w n node m x) (after h d)
-  gives_hold l calls places is enters one g =
+  gives_hold l calls q places is enters one g =
       let a = h.accounts n i e in
       let becomes : entered_by d d.move a ≡ grows_by (l ∷ []) [] a =
       ap (λ q. entered_by d q a) k.deed.move_is ∙ (enters a ∙ (gives_only d n node.end.role sender m a k.deed ∙ ap (λ ls. grows_by ls [] a) one)) in
@@ -118,10 +122,11 @@ module _ (w : World) (h : History) (n : ℕ) (node : Node) (sender : Option Send
       let out = channel_there.outstanding in
       subst (λ q. Holds q (after h d)) (sym same)
       (subst (λ y. Holds (with_end w n node y) (after h d)) (sym is)
-      (goes_hold w (with_end w n node (with_places node.end i (with_one l calls t) places)) h (after h d) n node (with_places node.end i (with_one l calls t) places) i e t (with_one l calls t) (l ∷ []) [] (record {
+      (goes_hold w (with_end w n node (with_places node.end i (with_one l calls q t) places)) h (after h d) n node
+      (with_places node.end i (with_one l calls q t) places) i e t (with_one l calls q t) (l ∷ []) [] (record {
         there = k.there;
         holds = k.holds;
-        alike = end_alike w n node (with_places node.end i (with_one l calls t) places) k.there;
+        alike = end_alike w n node (with_places node.end i (with_one l calls q t) places) k.there;
         epoch = refl;
         at_t = there;
         current = current;
@@ -143,6 +148,7 @@ module _ (w : World) (h : History) (n : ℕ) (node : Node) (sender : Option Send
         paired = opened.0;
         only = only;
         is = becomes_so h d n i e (grows_by (l ∷ []) [] a) k.deed.node_is (ap about k.deed.move_is) deed_epoch becomes plain;
+        query = g.query;
         spelled = (g.spelled, tt);
         plain = (g.plain, tt);
         told = (g.told, tt);
@@ -204,9 +210,15 @@ module _ (w : World) (h : History) (n : ℕ) (node : Node) (sender : Option Send
       let channel = channel_there w h n node sender moment ev mv x d k t o.there o.current refl plain in
       gives_hold w h n node sender moment ev mv x d k t o.there o.current refl plain
       (record { tunnel = m.tunnel; place = m.given; session = m.remote; message = Cdn m.session m.result m.error; hidden = None })
-      (without t.calls m.session) _ o.after (λ a. refl) refl
+      (without t.calls m.session) t.query _ o.after (λ a. refl) refl
       (record {
-        spelled = record { written = (let z = codes_fit node.end t ev moment m.session o.call o.on m.result m.error o.why in (o.session, z.0, z.1)); hides = tt; session = rw o.remote (live.calls m.session o.call o.live) };
+        spelled = inl (record {
+          written = (let z = codes_fit node.end t ev moment m.session o.call o.on m.result m.error o.why in
+              (o.session, z.0, z.1));
+          hides = tt;
+          session = rw o.remote (live.calls m.session o.call o.live);
+        });
+        query = live.query;
         plain = tt;
         told = tt;
         room = o.room;
@@ -225,9 +237,10 @@ module _ (w : World) (h : History) (n : ℕ) (node : Node) (sender : Option Send
       let live = live_there w h n node sender moment ev mv x d k t o.there o.current refl plain in
       gives_hold w h n node sender moment ev mv x d k t o.there o.current refl plain
       (record { tunnel = m.tunnel; place = m.given; session = 0; message = Hello; hidden = None })
-      t.calls node.end.calls o.after (λ a. refl) refl
+      t.calls t.query node.end.calls o.after (λ a. refl) refl
       (record {
-        spelled = record { written = tt; hides = tt; session = omega arith };
+        spelled = inl (record { written = tt; hides = tt; session = omega arith });
+        query = live.query;
         plain = tt;
         told = tt;
         room = o.room;
@@ -246,13 +259,14 @@ module _ (w : World) (h : History) (n : ℕ) (node : Node) (sender : Option Send
       let live = live_there w h n node sender moment ev mv x d k t o.there o.current refl plain in
       gives_hold w h n node sender moment ev mv x d k t o.there o.current refl plain
       (record { tunnel = m.tunnel; place = m.given; session = 0; message = request_of m.session m.subscriber; hidden = m.hidden })
-      (put t.calls m.session call) _ o.after (λ a. refl) refl
+      (put t.calls m.session call) t.query _ o.after (λ a. refl) refl
       (record {
-        spelled = record {
+        spelled = inl (record {
           written = request_written codecs.digits m.session m.subscriber o.session;
           hides = number_hides node.end.config m.session m.subscriber m.hidden o.session (codecs.digits m.subscriber) o.hides;
           session = omega arith;
-        };
+        });
+        query = live.query;
         plain = tt;
         told = tt;
         room = o.room;

@@ -17,10 +17,10 @@ use Rattle.end_model.specs.End.{End}
 use Rattle.world_model.specs.declared.standing.Standing.{Standing}
 use Rattle.world_model.specs.World.{World, Node, epoch_of}
 use Rattle.step_laws.specs.Letters.{Letter}
-use Rattle.connection_laws.specs.Facts.{IsNoOpening, IsSpelled, TellsOwn, kept_letter}
+use Rattle.connection_laws.specs.Facts.{IsNoOpening, TellsOwn, kept_letter}
 use Rattle.connection_laws.proofs.Taking.{all_append, begins_on}
 use Rattle.channel_laws.specs.Accounts.{Part, Unmade, Opener, Acceptor, Renewed, Taken, Account, heeded, History}
-use Rattle.channel_laws.specs.Facts.{Accounts, IsMade, partner_in, AreTaken, IsOpen, IsClosed, AreJoined, AreEven, IsOpener, IsAcceptor, BeginsBy, AsGiver, AsPeer, IsRenewed, IsPart, AccountOk, IsInState, AreAcked, ChannelOk, LiveOk, IdsOk, EndOk, BookOk, NodeOk, Holds}
+use Rattle.channel_laws.specs.Facts.{Accounts, IsMade, partner_in, AreTaken, IsOpen, IsClosed, AreJoined, AreEven, IsOpener, IsAcceptor, BeginsBy, AsGiver, AsPeer, IsRenewed, IsPart, AccountOk, IsInState, AreAcked, ChannelOk, LiveOk, IdsOk, EndOk, BookOk, NodeOk, Holds, QueryOk, IsSpelledIn}
 use Rattle.channel_laws.proofs.Linked.{opener_of, acceptor_of, renewed_of, not_itself}
 use Rattle.channel_laws.proofs.Ends.{Puts, put_end_ok}
 use Rattle.channel_laws.proofs.Extending.{IsOnly}
@@ -65,7 +65,8 @@ pub record Goes (w v : World) (h k : History) (n : ℕ) (node : Node) (x : End) 
   pub paired : IsPaired h.accounts i (h.accounts n i e) (h.accounts n i e).part
   pub only : IsOnly h k n i e
   pub is : k.accounts n i e ≡ grows_by more tks (h.accounts n i e)
-  pub spelled : AllByRecursion IsSpelled more
+  pub query : QueryOk e u.query
+  pub spelled : AllByRecursion (IsSpelledIn e) more
   pub plain : AllByRecursion (λ (l : Letter). IsNoOpening l.message) more
   pub told : AllByRecursion (λ (l : Letter). TellsOwn i l.message) more
   pub enough : (length tks ≡ 0) ⊎ (length (h.accounts n i e).taken + length tks ≤ length (partner_in h.accounts e (h.accounts n i e)).given)
@@ -281,7 +282,7 @@ module _ (w v : World) (h k : History) (n : ℕ) (node : Node) (x : End) (i e : 
     first_given = ok.first_given;
     first_taken = ok.first_taken;
     from_none = ok.from_none;
-    spelled = all_append IsSpelled a.given more ok.spelled g.spelled;
+    spelled = all_append (IsSpelledIn e) a.given more ok.spelled g.spelled;
     told = all_append (λ (l : Letter). TellsOwn i l.message) a.given more ok.told g.told;
     taken = g.taken;
     ignored = λ place y found le. (let lt = slice_get_within b.taken place y found in let all = heeds_all in absurd (omega (arith, le, lt, all)));
@@ -373,6 +374,7 @@ module _ (w v : World) (h k : History) (n : ℕ) (node : Node) (x : End) (i e : 
     recovery = λ r_ is. recovered_later w v h k n i e g.only g.holds node x g.alike late settled g.there joined account_there n i live.made r_ (live.recovery r_ (sym g.goes.recovery ∙ is));
     unattempted = λ early. (let three = g.goes.three in absurd (omega (arith, three, early)));
     calls = g.goes.calls;
+    query = subst (λ z. QueryOk z u.query) (sym epoch_there) g.query;
   }
     where
       same_or : (z : ℕ) → (k.accounts n i 0 ≡ h.accounts n i 0) ⊎ (0 ≡ e)

@@ -14,10 +14,10 @@ use Rattle.end_model.specs.End.{End}
 use Rattle.world_model.specs.declared.standing.Standing.{Standing}
 use Rattle.world_model.specs.World.{World, Node, epoch_of}
 use Rattle.step_laws.specs.Letters.{Letter}
-use Rattle.connection_laws.specs.Facts.{IsNoOpening, IsSpelled, TellsOwn, kept_letter}
+use Rattle.connection_laws.specs.Facts.{IsNoOpening, TellsOwn, kept_letter}
 use Rattle.connection_laws.proofs.Taking.{all_append}
 use Rattle.channel_laws.specs.Accounts.{Acceptor, Renewed, Taken, Account, History}
-use Rattle.channel_laws.specs.Facts.{IsMade, partner_in, AreTaken, IsOpen, IsShut, AreIgnored, AreEven, BeginsBy, AsGiver, AsPeer, IsRenewed, IsPart, AccountOk, IsInState, AreAcked, ChannelOk, LiveOk, IdsOk, EndOk, BookOk, NodeOk, Holds}
+use Rattle.channel_laws.specs.Facts.{IsMade, partner_in, AreTaken, IsOpen, IsShut, AreIgnored, AreEven, BeginsBy, AsGiver, AsPeer, IsRenewed, IsPart, AccountOk, IsInState, AreAcked, ChannelOk, LiveOk, IdsOk, EndOk, BookOk, NodeOk, Holds, QueryOk, IsSpelledIn}
 use Rattle.channel_laws.proofs.Linked.{renewed_of, not_itself}
 use Rattle.channel_laws.proofs.Ends.{Puts, put_end_ok}
 use Rattle.channel_laws.proofs.Extending.{IsOnly}
@@ -50,7 +50,8 @@ pub record GoesLater (w v : World) (h k : History) (n : ℕ) (node : Node) (x : 
   pub taken_is : u.control.channel.inbox.taken ≡ (h.accounts n i e).first_taken + (length (h.accounts n i e).taken + length tks)
   pub were : acked ≤ length (partner_in h.accounts e (h.accounts n i e)).taken
   pub enough : length (h.accounts n i e).taken + length tks ≤ length (partner_in h.accounts e (h.accounts n i e)).given
-  pub spelled : AllByRecursion IsSpelled more
+  pub query : QueryOk e u.query
+  pub spelled : AllByRecursion (IsSpelledIn e) more
   pub plain : AllByRecursion (λ (l : Letter). IsNoOpening l.message) more
   pub told : AllByRecursion (λ (l : Letter). TellsOwn i l.message) more
   pub taken : AreTaken k.accounts e (changes_by more tks closed (h.accounts n i e))
@@ -150,7 +151,7 @@ module _ (w v : World) (h k : History) (n : ℕ) (node : Node) (x : End) (i e : 
     first_given = ok.first_given;
     first_taken = ok.first_taken;
     from_none = ok.from_none;
-    spelled = all_append IsSpelled a.given more ok.spelled g.spelled;
+    spelled = all_append (IsSpelledIn e) a.given more ok.spelled g.spelled;
     told = all_append (λ (l : Letter). TellsOwn i l.message) a.given more ok.told g.told;
     taken = g.taken;
     ignored = g.ignored;
@@ -207,6 +208,7 @@ module _ (w v : World) (h k : History) (n : ℕ) (node : Node) (x : End) (i e : 
     recovery = λ z is. recovered_later w v h k n i e g.only g.holds node x g.alike late settled g.there joined account_there n i live.made z (live.recovery z (sym g.recovery ∙ is));
     unattempted = λ early. absurd (not_early early);
     calls = g.calls;
+    query = subst (λ z. QueryOk z u.query) (sym epoch_there) g.query;
   }
 
   ids_on : IdsOk k n x

@@ -3,12 +3,11 @@
 -- A packet of an earlier epoch is refused by the world. One of a later epoch was sent by a tunnel that is ahead of the one that it is for; and that is
 -- frozen, restored, closed or gone then, so it isn't one that takes a letter. Of one epoch, the 16 bits of a number tell the number without
 -- an end: the packet hasn't outlived half of the numbers, and no tunnel gives 8,192 letters more than its other end took.
-use Rattle.std.proofs.Common.{◌≡◌, ◌⊎◌, inl, inr, ⊎_elim, ℕ, ◌+◌, ◌<◌, ◌≤◌, Bool, true, false, cond, List, [], ◌∷◌, length, refl, sym, ap, ap₂, ◌∙◌, subst, Option, Some, None, Result, Ok, Err, arith}
+use Rattle.std.proofs.Common.{◌≡◌, ◌⊎◌, inl, inr, ⊎_elim, ℕ, ◌+◌, ◌<◌, ◌≤◌, Bool, true, false, cond, List, length, refl, sym, ap, ap₂, ◌∙◌, subst, Option, Some, None, Result, Ok, Err, arith}
 use Rattle.std.proofs.lemmas.Bool.{eqb-false}
 use Rattle.std.proofs.lemmas.Bool.Decides.{nat_tests}
 use Rattle.std.proofs.lemmas.Option.{slice_get_within}
 use Rattle.std.specs.Prelude.{slice_get, nat_lt, ◌==◌}
-use Rattle.std.specs.List.{AllByRecursion}
 use Rattle.recv_window.specs.declared.Class.TheVariants.{Next}
 use Rattle.recv_window.specs.Window.{on_wire, class_of, ClassIsTrue}
 use Rattle.l2tp_header.specs.declared.header.Header.{Header}
@@ -28,6 +27,8 @@ use Rattle.world_model.specs.declared.refusal.Refusal.TheVariants.{HalfSpace, St
 use Rattle.world_model.specs.World.{World, Node, standing_of, epoch_of, counts_of, counts_now, outlives, outlived, is_past, too_old}
 use Rattle.step_laws.specs.Letters.{Letter}
 use Rattle.frame_laws.specs.Codecs.{Codecs}
+use Rattle.channel_laws.proofs.Spelled.{all_so}
+use Rattle.channel_laws.specs.Recoveries.{WrittenIsRead, WrittenHasRoom}
 use Rattle.channel_laws.specs.Accounts.{Opener, Acceptor, Renewed, Account, History}
 use Rattle.channel_laws.specs.Facts.{IsMade, IsLost, partner_in, AreLinked, IsRenewed, AccountOk, ChannelOk, LiveOk, EndOk, BookOk, NodeOk, Says, ALetter, Nothing, IsCopy, IsRefusal, OriginOk, PacketOk, Holds}
 use Rattle.channel_laws.specs.Epochs.{IsLive, EpochsKnown}
@@ -269,7 +270,8 @@ module _ (classes : ClassIsTrue) (h : History) (n i e : ℕ) (a : Account) (t : 
 
 -- ---- a packet that is delivered
 
-module _ (codecs : Codecs) (classes : ClassIsTrue) (w : World) (h : History) (holds : Holds w h) (known : EpochsKnown w h) where
+module _ (codecs : Codecs) (again : WrittenIsRead) (room : WrittenHasRoom) (classes : ClassIsTrue) (w : World) (h : History)
+    (holds : Holds w h) (known : EpochsKnown w h) where
   module _ (p : Packet) (o : ControlOrigin) (node : Node) (i : ℕ) (t : Tunnel) (d : IsDelivered w p o node i t) (current : is_current (mode_of t.recovery) ≡ true)
       (copy : IsCopy (h.accounts p.from o.tunnel p.epoch) p o) where
     abbrev bytes : List ℕ
@@ -293,7 +295,8 @@ module _ (codecs : Codecs) (classes : ClassIsTrue) (w : World) (h : History) (ho
         by (Ok k) read =
             let r = reach_of node.end (address_of p.from) bytes k t.control read d.reached_it in
             let from = holds.accounts p.from o.tunnel p.epoch in
-            let told : k.tunnel ≡ copy.tunnel = copy_tells codecs (h.accounts p.from o.tunnel p.epoch) p o from.remote from.spelled copy node.end.config.secret k read in
+            let told : k.tunnel ≡ copy.tunnel = copy_tells codecs again room (h.accounts p.from o.tunnel p.epoch) p.epoch p o from.remote
+            from.spelled copy node.end.config.secret k read in
             let same : r.id ≡ i = sym (end.live r.id r.tunnel r.there).local ∙ (ap (λ (c : Control). c.local) (sym r.same) ∙ live.local) in
             ⊎_elim
             (λ (q : (k.tunnel ≡ 0 → ⊥) × (k.tunnel ≡ r.id) × (r.tunnel.control.peer ≡ address_of p.from)). inl ((λ z. q.0 (told ∙ z)), sym told ∙ (q.1 ∙ same)))
@@ -341,10 +344,6 @@ module _ (codecs : Codecs) (classes : ClassIsTrue) (w : World) (h : History) (ho
       (λ (r : IsRefusal h p o). inr r)
       sent
 
-all_map : {X : Type 0} (P Q : X → Type 0) → ((x : X) → P x → Q x) → (xs : List X) → AllByRecursion P xs → AllByRecursion Q xs
-all_map P Q f [] h = tt
-all_map P Q f (x ∷ xs) h = (f x h.0, all_map P Q f xs h.1)
-
-pub none_is_of_another : Codecs → ClassIsTrue → NoneIsOfAnother
-none_is_of_another codecs classes w h holds known =
-    all_map (PacketOk w h) _ (λ p ok. one_of_its_epoch codecs classes w h holds known p ok) w.packets holds.packets
+pub none_is_of_another : Codecs → WrittenIsRead → WrittenHasRoom → ClassIsTrue → NoneIsOfAnother
+none_is_of_another codecs again room classes w h holds known =
+    all_so (PacketOk w h) _ (λ p ok. one_of_its_epoch codecs again room classes w h holds known p ok) w.packets holds.packets

@@ -14,10 +14,9 @@ use Rattle.world_model.specs.World.{World, Node, Sender, epoch_of}
 use Rattle.step_laws.specs.Letters.{Letter}
 use Rattle.step_laws.specs.Arrivals.{Came, ComesTo, IsFor, IsNext, IsAgain, IsStop}
 use Rattle.frame_laws.specs.Codecs.{Codecs}
-use Rattle.frame_laws.specs.Plain.{IsReadAs}
-use Rattle.connection_laws.specs.Facts.{IsSpelled}
 use Rattle.connection_laws.proofs.Hearing.{same_address}
 use Rattle.connection_laws.proofs.Numbers.{next_is_expected}
+use Rattle.channel_laws.proofs.Spelled.{ReadsLetter}
 use Rattle.channel_laws.specs.Accounts.{Unmade, Renewed, Account, History}
 use Rattle.channel_laws.specs.Facts.{IsMade, partner_in, AreLinked, IsRenewed, ChannelOk, LiveOk, EndOk, BookOk, NodeOk, IsCopy, Holds}
 use Rattle.channel_laws.specs.Recoveries.{WrittenIsRead, WrittenHasRoom}
@@ -46,8 +45,7 @@ pub record NextLater (h : History) (n i e : ℕ) (sender : Option Sender) (k : C
   pub there : slice_get (partner_in h.accounts e (h.accounts n i e)).given (length (h.accounts n i e).taken) ≡ Some letter
   pub sender_is : sender ≡ Some (record { node = (h.accounts n i e).peer; tunnel = (h.accounts n i e).remote })
   pub session : k.header.session ≡ letter.session
-  pub reads : IsReadAs letter.message (body_of bytes k.header)
-  pub spelled : IsSpelled letter
+  pub reads : ReadsLetter letter (body_of bytes k.header)
 
 module _ (codecs : Codecs) (again : WrittenIsRead) (room : WrittenHasRoom) (w : World) (h : History) (holds : Holds w h) (n : ℕ) (node : Node) (there : at w.nodes n ≡ Some node)
     (sender : Option Sender) (ev : Event) (comes : Comes w h n node.end sender ev) (i e : ℕ) (t : Tunnel) (at_t : at node.end.tunnels i ≡ Some t)
@@ -173,7 +171,6 @@ module _ (codecs : Codecs) (again : WrittenIsRead) (room : WrittenHasRoom) (w : 
         sender_is = f.sender_is;
         session = q.session;
         reads = q.reads;
-        spelled = q.spelled;
       })
       (λ (q : IsNoneRead f.o k.header next.comes.came.bytes). absurd (next.some (ap length (next.comes.came.body_is ∙ q.body))))
       f.says

@@ -108,6 +108,12 @@ inactive_before e x moment ev (move.ClosedBy m) start order h i k = inl (kept_so
 inactive_before e x moment ev (move.Greeted m) start order h i k = inl (kept_so e x i m.tunnel h.tunnel _ h.there (tunnels_are x _ h.after) refl k)
 inactive_before e x moment ev (move.TookPlain m) start order h i k = inl (kept_so e x i m.tunnel h.tunnel _ h.there (tunnels_are x _ h.after) refl k)
 inactive_before e x moment ev (move.NrRead m) start order h i k = inl (kept_so e x i m.tunnel h.tunnel _ h.there (tunnels_are x _ h.after) refl k)
+inactive_before e x moment ev (move.Queried m) start order h i k =
+    inl (kept_so e x i m.tunnel h.tunnel _ h.there (tunnels_are x _ h.after) refl k)
+inactive_before e x moment ev (move.AnsweredQuery m) start order h i k =
+    inl (kept_so e x i m.tunnel h.tunnel _ h.there (tunnels_are x _ h.after) refl k)
+inactive_before e x moment ev (move.TookAnswer m) start order h i k =
+    inl (kept_so e x i m.tunnel h.tunnel _ h.there (tunnels_are x _ h.after) refl k)
 inactive_before e x moment ev (move.LetGo m) start order h i k = inl (kept_so e x i m.tunnel h.tunnel _ h.there (tunnels_are x _ h.after) refl k)
 inactive_before e x moment ev (move.Repeated m) start order h i k = inl (kept_so e x i m.tunnel h.tunnel _ h.there (tunnels_are x _ h.after) refl k)
 inactive_before e x moment ev (move.Negotiated m) start order h i k = inl (kept_so e x i m.tunnel h.tunnel _ h.there (tunnels_are x _ h.after) refl k)
@@ -152,6 +158,12 @@ active_after e x moment ev (move.ClosedBy m) start still other zero h k = (activ
 active_after e x moment ev (move.Greeted m) start still other zero h k = (active_put e x m.tunnel m.tunnel _ (tunnels_are x _ h.after) h.current k).0 refl
 active_after e x moment ev (move.TookPlain m) start still other zero h k = (active_put e x m.tunnel m.tunnel _ (tunnels_are x _ h.after) h.current k).0 refl
 active_after e x moment ev (move.NrRead m) start still other zero h k = (active_put e x m.tunnel m.tunnel _ (tunnels_are x _ h.after) h.current k).0 refl
+active_after e x moment ev (move.Queried m) start still other zero h k =
+    (active_put e x m.tunnel m.tunnel _ (tunnels_are x _ h.after) h.current k).0 refl
+active_after e x moment ev (move.AnsweredQuery m) start still other zero h k =
+    (active_put e x m.tunnel m.tunnel _ (tunnels_are x _ h.after) h.current k).0 refl
+active_after e x moment ev (move.TookAnswer m) start still other zero h k =
+    (active_put e x m.tunnel m.tunnel _ (tunnels_are x _ h.after) h.current k).0 refl
 active_after e x moment ev (move.Declined m) start still other zero h k = zero k.tunnel k.there
 active_after e x moment ev (move.ResetAttempting m) start still other zero h k =
     (active_put e x m.tunnel m.tunnel _ (tunnels_are x _ h.after) (reset_current (ByAttempt h.new) moment h.same.3) k).0 refl

@@ -20,7 +20,7 @@ use Rattle.world_model.specs.declared.standing.Standing.{Standing}
 use Rattle.world_model.specs.World.{World, Node, Checkpoint, standing_of, epoch_of}
 use Rattle.book_laws.proofs.Lists.{entry_has}
 use Rattle.channel_laws.specs.Accounts.{Part, Unmade, Opener, Acceptor, Renewed, Account, no_account, History}
-use Rattle.channel_laws.specs.Facts.{IsMade, partner_in, makes, AreTaken, IsOpen, IsLost, IsShut, AreJoined, AreEven, IsOpener, IsAcceptor, AreLinked, KnowsBy, ByLetter, ByRecord, BookedOk, AnswerOk, AttemptOk, BeginsBy, AsGiver, AsPeer, IsRenewed, IsPart, AccountOk, IsAnswered, IsInState, AreAcked, ChannelOk, IsRecovered, LiveOk, IdsOk, EndOk, BookOk, NodeOk, StandingOk, SaysRecovery, AsksFor, Suggests, Confirms, Refuses, OriginOk, PacketOk, Holds}
+use Rattle.channel_laws.specs.Facts.{IsMade, partner_in, makes, AreTaken, IsOpen, IsLost, IsShut, AreJoined, AreEven, IsOpener, IsAcceptor, AreLinked, KnowsBy, ByLetter, ByRecord, BookedOk, AnswerOk, AttemptOk, BeginsBy, AsGiver, AsPeer, IsRenewed, IsPart, AccountOk, IsAnswered, IsInState, AreAcked, ChannelOk, IsRecovered, LiveOk, IdsOk, EndOk, BookOk, NodeOk, StandingOk, SaysRecovery, AsksFor, Suggests, Confirms, Refuses, OriginOk, PacketOk, Holds, QueryOk}
 use Rattle.channel_laws.proofs.Anew.{here_or_not}
 use Rattle.channel_laws.proofs.Linked.{not_itself}
 use Rattle.channel_laws.proofs.Making.{SameNode}
@@ -579,6 +579,7 @@ module _ (w v : World) (h k : History) (n i e : ℕ) (only : IsOnly h k n i e) (
         recovery = λ r is. recovered_later m j live.made r (live.recovery r is);
         unattempted = λ early a r is. live.unattempted early a r (sym (only.attempts m a) ∙ is);
         calls = live.calls;
+        query = subst (λ u. QueryOk u t.query) (sym (epochs m j)) live.query;
       }
 
     -- ---- nodes

@@ -18,9 +18,9 @@ use Rattle.world_model.specs.declared.standing.Standing.{Standing}
 use Rattle.step_laws.specs.Arrivals.{Came, IsNext}
 use Rattle.step_laws.specs.Letters.{Letter}
 use Rattle.frame_laws.specs.Codecs.{Codecs}
-use Rattle.connection_laws.specs.Facts.{Tells, IsIgnored, IsNoOpening, IsSpelled, TellsOwn}
+use Rattle.connection_laws.specs.Facts.{Tells, IsIgnored, IsNoOpening, TellsOwn}
 use Rattle.channel_laws.specs.Accounts.{Part, Unmade, Opener, Acceptor, Renewed, Taken, Account, heeded, History, about, entered_by, after}
-use Rattle.channel_laws.specs.Facts.{IsMade, partner_in, IsOpen, IsShut, IsTaken, AreTaken, AreIgnored, IsRenewed, IsInState, AreAcked, ChannelOk, LiveOk, EndOk, BookOk, NodeOk, Holds}
+use Rattle.channel_laws.specs.Facts.{IsMade, partner_in, IsOpen, IsShut, IsTaken, AreTaken, AreIgnored, IsRenewed, IsInState, AreAcked, ChannelOk, LiveOk, EndOk, BookOk, NodeOk, Holds, QueryOk, IsSpelledIn}
 use Rattle.channel_laws.specs.Recoveries.{WrittenIsRead, WrittenHasRoom}
 use Rattle.channel_laws.specs.Steps.{moves_on, IsMoved}
 use Rattle.channel_laws.proofs.Linked.{opener_of, acceptor_of, renewed_of}
@@ -180,8 +180,11 @@ module _ (codecs : Codecs) (again : WrittenIsRead) (room : WrittenHasRoom) (clas
     -- an open tunnel goes on
     module _ (more : List Letter) (u : Tunnel) (goes : GoesOn t u more 1) (three : state_number t.control.state ≡ 3)
         (becomes : entered_by d m (h.accounts n (about m) (epoch_of w n (about m))) ≡ grows_by more (taken_as sender place m ∷ []) (h.accounts n (about m) (epoch_of w n (about m))))
-        (tells : Tells next_so.letter m) (spelled : AllByRecursion IsSpelled more) (no_opening : AllByRecursion (λ (l : Letter). IsNoOpening l.message) more)
-        (told : AllByRecursion (λ (l : Letter). TellsOwn (about m) l.message) more) (puts : Puts node.end x (about m) u) (ids : x.tunnel_ids ≡ node.end.tunnel_ids) where
+        (tells : Tells next_so.letter m) (spelled : AllByRecursion (IsSpelledIn (epoch_of w n (about m))) more)
+        (no_opening : AllByRecursion (λ (l : Letter). IsNoOpening l.message) more)
+        (told : AllByRecursion (λ (l : Letter). TellsOwn (about m) l.message) more) (puts : Puts node.end x (about m) u)
+        (ids : x.tunnel_ids ≡ node.end.tunnel_ids)
+        (query : QueryOk (epoch_of w n (about m)) u.query) where
       opened : IsPaired h.accounts i a a.part × IsOpen a
       opened = open_state h.accounts i e a t a.part channel_so.state three
 
@@ -202,6 +205,7 @@ module _ (codecs : Codecs) (again : WrittenIsRead) (room : WrittenHasRoom) (clas
             paired = opened.0;
             only = only;
             is = is_so more (taken_as sender place m ∷ []) a.closed becomes (inr refl);
+            query = query;
             spelled = spelled;
             plain = no_opening;
             told = told;

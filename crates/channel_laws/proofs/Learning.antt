@@ -18,7 +18,7 @@ use Rattle.end_model.specs.Channels.{counts_taken}
 use Rattle.end_model.specs.Tunnels.{Tunnel, mode_of, is_current}
 use Rattle.end_model.specs.End.{End}
 use Rattle.world_model.specs.World.{World, Node, Sender, Deed, epoch_of, moved}
-use Rattle.step_laws.specs.Moves.{with_tunnel, with_letter, learns_window, without_calls, Connects, Rejects}
+use Rattle.step_laws.specs.Moves.{with_tunnel, with_letter, learns_window, without_calls, Connects, Rejects, LetterCloses}
 use Rattle.frame_laws.specs.Codecs.{Codecs}
 use Rattle.connection_laws.specs.Steps as calm_steps
 use Rattle.channel_laws.specs.Accounts.{Part, Unmade, Opener, Acceptor, Renewed, History, after}
@@ -124,18 +124,18 @@ module _ (laws : calm_steps.MovesKeep) (codecs : Codecs) (again : WrittenIsRead)
       let early = λ (lt : state_number u.control.state < 3). let same = ap state_number (learns_state m.window (record t.control { remote = m.remote; flags = m.flags; state = Established })) in
       let no_ : ⊥ = omega (arith, lt, same) in absurd no_ in
       let only_there = only laws codecs again room w h n node sender moment ev mv x d k t o.there o.current zero tt plain v refl alike comes (with_tunnel e0 i (bare u)) does u (at_new e0.tunnels i (bare u)) (λ y. refl)
-      extends refl (λ known is. absurd (known waits.0)) puts ids refl early in
+      extends refl (λ known is. absurd (known waits.0)) puts ids refl refl early in
       let account_there = account laws codecs again room w h n node sender moment ev mv x d k t o.there o.current zero tt plain v refl alike comes (with_tunnel e0 i (bare u)) does u (at_new e0.tunnels i (bare u)) (λ y. refl)
-      extends refl (λ known is. absurd (known waits.0)) puts ids refl early in
+      extends refl (λ known is. absurd (known waits.0)) puts ids refl refl early in
       let own : ((after h d).accounts n i 0).part ≡ Opener = part_on a ((after h d).accounts n i 0) only_there.here live.made ∙ waits.1 in
       first_holds laws codecs again room w h n node sender moment ev mv x d k t o.there o.current zero tt plain v refl alike comes (with_tunnel e0 i (bare u)) does u (at_new e0.tunnels i (bare u)) (λ y. refl)
-      extends refl (λ known is. absurd (known waits.0)) puts ids refl early
+      extends refl (λ known is. absurd (known waits.0)) puts ids refl refl early
       (alone_with_acceptor w v h (after h d) n node.end x k.holds (both_there k.there k.holds).0 i u puts
       (live_first laws codecs again room w h n node sender moment ev mv x d k t o.there o.current zero tt plain v refl alike comes (with_tunnel e0 i (bare u)) does u (at_new e0.tunnels i (bare u)) (λ y. refl)
-      extends refl (λ known is. absurd (known waits.0)) puts ids refl early)
+      extends refl (λ known is. absurd (known waits.0)) puts ids refl refl early)
       only_there (subst (IsPart v (after h d) n i 0 ((after h d).accounts n i 0)) own account_there.part).1
       (remote_first laws codecs again room w h n node sender moment ev mv x d k t o.there o.current zero tt plain v refl alike comes (with_tunnel e0 i (bare u)) does u (at_new e0.tunnels i (bare u)) (λ y. refl)
-      extends refl (λ known is. absurd (known waits.0)) puts ids refl early)
+      extends refl (λ known is. absurd (known waits.0)) puts ids refl refl early)
       own)
 
   pub rejected_keeps : (m : Rejected) → IsMoved w h n node sender moment ev (move.Rejected m) x d → Holds (moves_on w n node (move.Rejected m) x) (after h d)
@@ -168,7 +168,8 @@ module _ (laws : calm_steps.MovesKeep) (codecs : Codecs) (again : WrittenIsRead)
         on = o.on;
         letter = o.letter;
         takes = taking_bare ev t o.letter m.taken o.takes;
-        why = o.why;
+        why = subst (λ q. LetterCloses node.end.config.secret t.control q o.letter o.on m.remote m.result m.error) (live.query.none zero)
+            o.why;
         row = o.row;
         room = o.room;
         given = o.given;
@@ -178,16 +179,16 @@ module _ (laws : calm_steps.MovesKeep) (codecs : Codecs) (again : WrittenIsRead)
       let ids = ap (λ (e : End). e.tunnel_ids) o.after in
       let early = λ (lt : state_number u.control.state < 3). let no_ : ⊥ = omega (arith, lt) in absurd no_ in
       let only_there = only laws codecs again room w h n node sender moment ev mv x d k t o.there o.current zero tt plain v refl alike comes (without_calls e0 i (bare s) t.calls) does u (at_new e0.tunnels i (bare u)) (λ y. refl)
-      extends refl (λ known is. absurd (known waits.0)) puts ids refl early in
+      extends refl (λ known is. absurd (known waits.0)) puts ids refl refl early in
       let account_there = account laws codecs again room w h n node sender moment ev mv x d k t o.there o.current zero tt plain v refl alike comes (without_calls e0 i (bare s) t.calls) does u (at_new e0.tunnels i (bare u)) (λ y. refl)
-      extends refl (λ known is. absurd (known waits.0)) puts ids refl early in
+      extends refl (λ known is. absurd (known waits.0)) puts ids refl refl early in
       let own : ((after h d).accounts n i 0).part ≡ Opener = part_on a ((after h d).accounts n i 0) only_there.here live.made ∙ waits.1 in
       first_holds laws codecs again room w h n node sender moment ev mv x d k t o.there o.current zero tt plain v refl alike comes (without_calls e0 i (bare s) t.calls) does u (at_new e0.tunnels i (bare u)) (λ y. refl)
-      extends refl (λ known is. absurd (known waits.0)) puts ids refl early
+      extends refl (λ known is. absurd (known waits.0)) puts ids refl refl early
       (alone_with_acceptor w v h (after h d) n node.end x k.holds (both_there k.there k.holds).0 i u puts
       (live_first laws codecs again room w h n node sender moment ev mv x d k t o.there o.current zero tt plain v refl alike comes (without_calls e0 i (bare s) t.calls) does u (at_new e0.tunnels i (bare u)) (λ y. refl)
-      extends refl (λ known is. absurd (known waits.0)) puts ids refl early)
+      extends refl (λ known is. absurd (known waits.0)) puts ids refl refl early)
       only_there (subst (IsPart v (after h d) n i 0 ((after h d).accounts n i 0)) own account_there.part).1
       (remote_first laws codecs again room w h n node sender moment ev mv x d k t o.there o.current zero tt plain v refl alike comes (without_calls e0 i (bare s) t.calls) does u (at_new e0.tunnels i (bare u)) (λ y. refl)
-      extends refl (λ known is. absurd (known waits.0)) puts ids refl early)
+      extends refl (λ known is. absurd (known waits.0)) puts ids refl refl early)
       own)

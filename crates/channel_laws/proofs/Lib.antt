@@ -1,7 +1,8 @@
 mod Numbers
+mod Spelled
 mod Told
 mod Reached
-mod Linked
+pub mod Linked
 mod Heard
 mod Frames
 pub mod Lines
@@ -15,6 +16,7 @@ pub mod Answering
 mod Ends
 mod Entering
 mod Waiting
+mod Sessions
 mod Begun
 mod ResetsAnswering
 mod Making
@@ -32,7 +34,6 @@ mod Later
 mod Going
 mod Open
 mod Giving
-mod GivingMoves
 pub mod Calm
 pub mod Main
 pub mod FirstMoves
@@ -46,6 +47,8 @@ pub mod HeardLater
 pub mod LaterMoves
 pub mod TakesLater
 pub mod ClosesLater
+mod Querying
+mod GivingMoves
 mod Takings
 pub mod Opening
 pub mod Accepting

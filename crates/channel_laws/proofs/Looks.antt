@@ -14,7 +14,7 @@ use Rattle.world_model.specs.declared.packet.Packet.{Packet}
 use Rattle.world_model.specs.declared.standing.Standing.{Standing}
 use Rattle.world_model.specs.World.{World, Node, standing_of, epoch_of, answer_in, with_node, with_birth, with_birth_at, is_born, with_standing, with_standing_at, with_answer_at, has_made, makes_epoch, enters_epoch, birth_of, moved, moved_all}
 use Rattle.channel_laws.specs.Accounts.{History}
-use Rattle.channel_laws.specs.Facts.{IsRecovered, ChannelOk, LiveOk, EndOk, BookOk, NodeOk, StandingOk, PacketOk, Holds}
+use Rattle.channel_laws.specs.Facts.{IsRecovered, ChannelOk, LiveOk, EndOk, BookOk, NodeOk, StandingOk, PacketOk, Holds, QueryOk}
 pub use Rattle.channel_laws.specs.Whole.{SameLook, CountAlike}
 use Rattle.channel_laws.proofs.Agreeing.{Agree}
 use Rattle.channel_laws.proofs.Growing.{Grows, account_grows, answers_grow, packets_grow}
@@ -155,6 +155,7 @@ module _ (v u : World) (h : History) (g : CountAlike v u) where
     recovery = λ r is. recovered n i r (ok.recovery r is);
     unattempted = ok.unattempted;
     calls = ok.calls;
+    query = subst (λ e. QueryOk e t.query) (sym (epochs n i)) ok.query;
   }
 
   pub end_agrees : (n : ℕ) (e : End) → EndOk v h n e → EndOk u h n e

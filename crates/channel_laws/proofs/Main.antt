@@ -10,13 +10,12 @@ use Rattle.control_message.specs.declared.message.Message.{Message}
 use Rattle.control_message.specs.declared.message.MessageError.{MessageError}
 use Rattle.control_message.specs.declared.message.Read.{Read}
 use Rattle.control_message.specs.declared.message.Read.TheVariants.{Known, Ignored}
-use Rattle.control_message.specs.Reading.{message_of}
 use Rattle.end_names.specs.Names.{address_of}
 use Rattle.end_model.specs.declared.event.Addressee.{Addressee}
 use Rattle.wire_base.specs.declared.why.Why.TheVariants as why
 use Rattle.end_model.specs.declared.event.Addressee.TheVariants.{Opens, Stops, Nobody}
 use Rattle.end_model.specs.declared.event.Event.{Event}
-use Rattle.end_model.specs.Reading.{message_in, pairs_read, message_read, at_zero, zero_pairs, zero_read}
+use Rattle.end_model.specs.Reading.{message_in, pairs_read, message_read, at_zero, zero_pairs, zero_read, message_said}
 use Rattle.end_model.specs.Tunnels.{Tunnel}
 use Rattle.end_model.specs.End.{End}
 use Rattle.world_model.specs.declared.packet.Packet.{Packet}
@@ -44,7 +43,7 @@ module _ (y : Message) where
 
   pairs_so : (r : Result (List Avp) AvpError) → pairs_read r ≡ Ok y → IsZero (zero_pairs r)
   unfolding pairs_read zero_pairs
-  pairs_so (Ok avps) said = reads_so avps (message_of avps) said
+  pairs_so (Ok avps) said = reads_so avps (message_said avps) said
   pairs_so (Err e) said = absurd cc
 
   pub zero_of : (body : List ℕ) → message_in body ≡ Ok y → IsZero (at_zero body)

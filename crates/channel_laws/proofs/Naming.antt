@@ -8,10 +8,9 @@ use Rattle.control_message.specs.declared.message.MessageError.{MessageError}
 use Rattle.control_message.specs.declared.message.Opening.{Opening}
 use Rattle.control_message.specs.declared.message.Read.{Read}
 use Rattle.control_message.specs.declared.message.Read.TheVariants.{Known, Ignored}
-use Rattle.control_message.specs.Reading.{message_of}
 use Rattle.end_model.specs.declared.event.Addressee.TheVariants.{Answers}
 use Rattle.end_model.specs.declared.out.ControlOrigin.{ControlOrigin}
-use Rattle.end_model.specs.Reading.{message_in, pairs_read, message_read, at_zero, zero_pairs, zero_read}
+use Rattle.end_model.specs.Reading.{message_in, pairs_read, message_read, at_zero, zero_pairs, zero_read, message_said}
 use Rattle.world_model.specs.declared.packet.Packet.{Packet}
 use Rattle.world_model.specs.World.{World}
 use Rattle.channel_laws.specs.Accounts.{Opener, Acceptor, Renewed, Account, History}
@@ -29,7 +28,7 @@ module _ (body : List ℕ) (o : Opening) where
 
   pairs_so : (r : Result (List Avp) AvpError) → pairs_read r ≡ Ok (Sccrp o) → zero_pairs r ≡ Answers o.tunnel
   unfolding pairs_read zero_pairs
-  pairs_so (Ok avps) said = reads_so avps (message_of avps) said
+  pairs_so (Ok avps) said = reads_so avps (message_said avps) said
   pairs_so (Err e) said = absurd cc
 
   pub reply_answers : message_in body ≡ Ok (Sccrp o) → at_zero body ≡ Answers o.tunnel

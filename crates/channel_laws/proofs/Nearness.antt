@@ -15,7 +15,6 @@ use Rattle.control_message.specs.declared.message.MessageError.{MessageError}
 use Rattle.control_message.specs.declared.message.Opening.{Opening}
 use Rattle.control_message.specs.declared.message.Read.{Read}
 use Rattle.control_message.specs.declared.message.Read.TheVariants.{Known, Ignored}
-use Rattle.control_message.specs.Reading.{message_of}
 use Rattle.send_window.specs.Kept.{Window}
 use Rattle.send_window.specs.Window as sending
 use Rattle.recv_window.specs.declared.Class.TheVariants.{Next}
@@ -31,7 +30,7 @@ use Rattle.end_model.specs.declared.out.Origin.{Origin}
 use Rattle.end_model.specs.declared.out.Origin.TheVariants as origin
 use Rattle.end_model.specs.declared.out.ControlOrigin.{ControlOrigin}
 use Rattle.end_model.specs.declared.tunnel.Control.{Control}
-use Rattle.end_model.specs.Reading.{message_in, pairs_read, message_read, at_zero, zero_pairs, zero_read}
+use Rattle.end_model.specs.Reading.{message_in, pairs_read, message_read, at_zero, zero_pairs, zero_read, message_said}
 use Rattle.end_model.specs.Secrets.{uncovered_datagram}
 use Rattle.end_model.specs.Tunnels.{Tunnel, ByAttempt, ByAnswer, mode_of, is_current}
 use Rattle.end_model.specs.End.{End}
@@ -44,8 +43,9 @@ use Rattle.step_laws.specs.Moves.{Does}
 use Rattle.step_laws.specs.Steps.{IsOfNoStart}
 use Rattle.frame_laws.specs.Codecs.{Codecs}
 use Rattle.connection_laws.specs.Facts.{IsNoOpening}
-use Rattle.connection_laws.proofs.Alike.{read_same}
 use Rattle.connection_laws.proofs.Hearing.{no_message}
+use Rattle.channel_laws.specs.Recoveries.{WrittenIsRead, WrittenHasRoom}
+use Rattle.channel_laws.proofs.Spelled.{letter_same}
 use Rattle.channel_laws.specs.Accounts.{Account, History, about}
 use Rattle.channel_laws.specs.Facts.{IsMade, ChannelOk, LiveOk, EndOk, BookOk, NodeOk, IsCopy, IsRefusal, OriginOk, PacketOk, Holds}
 use Rattle.channel_laws.specs.Steps.{IsNear, AreNear, IsPacket, Comes, with_end, moves_on, IsMoved}
@@ -114,7 +114,7 @@ module _ (body : List ℕ) (r : Option (List ℕ)) where
 
   pairs_so : (q : Result (List Avp) AvpError) → pairs_read q ≡ Ok (Scccn r) → zero_pairs q ≡ Nobody why.Tunnel
   unfolding pairs_read zero_pairs
-  pairs_so (Ok avps) said = reads_so avps (message_of avps) said
+  pairs_so (Ok avps) said = reads_so avps (message_said avps) said
   pairs_so (Err e) said = absurd cc
 
   pub confirmation_none : message_in body ≡ Ok (Scccn r) → at_zero body ≡ Nobody why.Tunnel
@@ -134,7 +134,8 @@ unwanted e ev at_peer peer bytes (LacWants lac lns asks) is = no_datagram ev pee
 
 -- ---- after a move
 
-module _ (codecs : Codecs) (w : World) (h : History) (n : ℕ) (node : Node) (sender : Option Sender) (moment : ℕ) (ev : Event) (m : Move) (x : End) (d : Deed)
+module _ (codecs : Codecs) (again : WrittenIsRead) (room : WrittenHasRoom) (w : World) (h : History) (n : ℕ) (node : Node)
+    (sender : Option Sender) (moment : ℕ) (ev : Event) (m : Move) (x : End) (d : Deed)
     (k : IsMoved w h n node sender moment ev m x d) (start : IsOfNoStart m) (g : History) (holds : Holds (moves_on w n node m x) g) (own : Node)
     (own_is : at (moves_on w n node m x).nodes n ≡ Some own) (end_is : own.end ≡ x) where
   abbrev v : World
@@ -181,7 +182,7 @@ module _ (codecs : Codecs) (w : World) (h : History) (n : ℕ) (node : Node) (se
             (λ (copy : IsCopy (h.accounts p.from o.tunnel p.epoch) p o).
             let a = h.accounts p.from o.tunnel p.epoch in
             let ok = k.holds.accounts p.from o.tunnel p.epoch in
-            let c = copy_read codecs a p o came.secret kh ok.remote ok.spelled copy read_there in
+            let c = copy_read codecs again room p.epoch a p o came.secret kh ok.remote ok.spelled copy read_there in
             record { ns = c.ns; nr = c.nr })
             (λ (r : IsRefusal h p o).
             let s = stop_read codecs r.tunnel o.nr r.result r.error p.bytes came.secret kh (refused_fits w h k.holds p o r) r.nr r.fit r.are read_there in
@@ -194,13 +195,13 @@ module _ (codecs : Codecs) (w : World) (h : History) (n : ℕ) (node : Node) (se
             (λ (copy : IsCopy (h.accounts p.from o.tunnel p.epoch) p o).
             let a = h.accounts p.from o.tunnel p.epoch in
             let ok = k.holds.accounts p.from o.tunnel p.epoch in
-            let c = copy_read codecs a p o came.secret kh ok.remote ok.spelled copy read_there in
+            let c = copy_read codecs again room p.epoch a p o came.secret kh ok.remote ok.spelled copy read_there in
             let said_there : message_in (body_of (uncovered_datagram came.secret p.bytes) kh) ≡ Ok (Sccrq q) = ap (λ bs. message_in (body_of bs kh)) (sym came.bytes_are) ∙ said in
             ⊎_elim
             (λ (first : p.epoch ≡ 0). first)
             (λ r. ⊎_elim
             (λ (l : IsLetterRead a o kh (uncovered_datagram came.secret p.bytes)).
-            let message = read_same l.letter.message (body_of (uncovered_datagram came.secret p.bytes) kh) l.reads (Sccrq q) said_there tt in
+            let message = letter_same l.letter (body_of (uncovered_datagram came.secret p.bytes) kh) l.reads (Sccrq q) said_there tt in
             absurd (subst IsNoOpening message (all_at (λ y. IsNoOpening y.message) a.given l.place l.letter l.there r.no_opening)))
             (λ (l : IsNoneRead o kh (uncovered_datagram came.secret p.bytes)). absurd (no_message codecs (Sccrq q) (ap message_in (sym l.body) ∙ said_there)))
             c.says)
@@ -215,7 +216,7 @@ module _ (codecs : Codecs) (w : World) (h : History) (n : ℕ) (node : Node) (se
             (λ (copy : IsCopy (h.accounts p.from o.tunnel p.epoch) p o).
             let a = h.accounts p.from o.tunnel p.epoch in
             let ok = k.holds.accounts p.from o.tunnel p.epoch in
-            let c = copy_read codecs a p o came.secret kh ok.remote ok.spelled copy read_there in
+            let c = copy_read codecs again room p.epoch a p o came.secret kh ok.remote ok.spelled copy read_there in
             let named : copy.tunnel ≡ id = sym c.tunnel_is ∙ names in
             let made = copy_names w h k.holds p o p.epoch copy (λ z. let no : ⊥ = omega (arith, named, z, some) in no) in
             let here : IsMade (h.accounts n id 0) = subst (λ q. IsMade (h.accounts n q 0)) named (subst (λ q. IsMade (h.accounts q copy.tunnel 0)) came.to made) in

@@ -78,7 +78,7 @@ tunnels_are : (x y : End) → x ≡ y → x.tunnels ≡ y.tunnels
 tunnels_are x y same = ap (λ (e : End). e.tunnels) same
 
 -- by cases on a test
-by_test : {X : Type 0} (P : X → Type 0) (b : Bool) (x y : X) → P x → P y → P (cond b x y)
+pub by_test : {X : Type 0} (P : X → Type 0) (b : Bool) (x y : X) → P x → P y → P (cond b x y)
 by_test P true x y p q = p
 by_test P false x y p q = q
 
@@ -203,6 +203,17 @@ does_count e x moment ev (move.Refused m) start order h j u there active =
     (goes_on h.tunnel _ refl refl refl) (one_more (taken_of h.tunnel)) refl
 does_count e x moment ev (move.EndHeard m) start order h j u there active =
     put_takes e x moment ev (move.EndHeard m) j u there active m.tunnel h.tunnel _ h.there (tunnels_are x _ h.after) h.current h.letter h.takes.next
+    (goes_on h.tunnel _ refl refl refl) (one_more (taken_of h.tunnel)) refl
+does_count e x moment ev (move.Queried m) start order h j u there active =
+    put_stays e x moment ev (move.Queried m) j u there active m.tunnel h.tunnel _ h.there (tunnels_are x _ h.after) (λ on. on)
+    (record { goes = goes_on h.tunnel _ refl refl refl; remote = refl; taken = refl; acked = refl })
+does_count e x moment ev (move.AnsweredQuery m) start order h j u there active =
+    put_takes e x moment ev (move.AnsweredQuery m) j u there active m.tunnel h.tunnel _ h.there (tunnels_are x _ h.after) h.current h.letter
+    h.takes.next
+    (goes_on h.tunnel _ refl refl refl) (one_more (taken_of h.tunnel)) refl
+does_count e x moment ev (move.TookAnswer m) start order h j u there active =
+    put_takes e x moment ev (move.TookAnswer m) j u there active m.tunnel h.tunnel _ h.there (tunnels_are x _ h.after) h.current h.letter
+    h.takes.next
     (goes_on h.tunnel _ refl refl refl) (one_more (taken_of h.tunnel)) refl
 does_count e x moment ev (move.TookPlain m) start order h j u there active =
     put_takes e x moment ev (move.TookPlain m) j u there active m.tunnel h.tunnel _ h.there (tunnels_are x _ h.after) h.current h.letter h.next

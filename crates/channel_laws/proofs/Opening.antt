@@ -219,11 +219,11 @@ module _ (w : World) (h : History) (n : ℕ) (node : Node) (sender : Option Send
     first_taken = omega arith;
     from_none = λ zero. (refl, refl);
     spelled = (
-      record {
+      inl (record {
         written = (opening_written e.role (config_of n 0 None false) m.challenge None m.tunnel both_ok.0.node some fits (asks_short e.config.secret m.challenge k.does.asks) tt, refl);
         hides = tt;
         session = omega arith;
-      },
+      }),
       tt,
     );
     told = (tt, tt);
@@ -262,6 +262,7 @@ module _ (w : World) (h : History) (n : ℕ) (node : Node) (sender : Option Send
     recovery = λ r none. absurd (none-some r none);
     unattempted = λ early a r found. never_attempted w h n node x d i k.there k.holds unmade a r (sym (only.attempts n a) ∙ found);
     calls = λ s c f. absurd (none-some c (sym (at-none s) ∙ f));
+    query = record { none = λ z. refl; fit = tt };
   }
 
   puts : Puts node.end x i u

@@ -9,7 +9,7 @@ use Rattle.l2tp_header.specs.Again.{control_header}
 use Rattle.l2tp_header.specs.Spelling.{control_bytes, data_bytes}
 use Rattle.l2tp_header.specs.Reading.{header_of, body_of}
 use Rattle.avp_codec.specs.Spelling.{spelling}
-use Rattle.control_message.specs.declared.kind.Kinds.TheVariants.{Base}
+use Rattle.control_message.specs.declared.kind.Kinds.TheVariants.{Queries}
 use Rattle.control_message.specs.declared.message.Message.{Message}
 use Rattle.control_message.specs.declared.message.Message.TheVariants.{StopCcn}
 use Rattle.control_message.specs.Grammar.{IsKnownTo}
@@ -25,11 +25,12 @@ use Rattle.step_laws.specs.Codes.{CodesFit}
 use Rattle.frame_laws.specs.Codecs.{Codecs}
 use Rattle.frame_laws.specs.Written.{IsWritten as IsWrittenPlainly}
 use Rattle.frame_laws.specs.Plain.{IsReadAs, AsAMessage, stays_plain, hides_nothing, letter_stays, message_there}
-use Rattle.connection_laws.specs.Facts.{IsSpelled, IsData}
-use Rattle.connection_laws.proofs.Plain.{on_wire_fits, letter_read, nothing_read, data_plain}
+use Rattle.connection_laws.specs.Facts.{IsData}
+use Rattle.connection_laws.proofs.Plain.{on_wire_fits, nothing_read, data_plain}
 use Rattle.connection_laws.proofs.Refusals.{same_header, message_again}
+use Rattle.channel_laws.proofs.Spelled.{ReadsLetter, letter_read}
 use Rattle.channel_laws.specs.Accounts.{Account, History}
-use Rattle.channel_laws.specs.Facts.{Says, ALetter, Nothing, IsCopy, SaysRecovery, AsksFor, Suggests, Confirms, Refuses}
+use Rattle.channel_laws.specs.Facts.{Says, ALetter, Nothing, IsCopy, SaysRecovery, AsksFor, Suggests, Confirms, Refuses, IsSpelledIn}
 use Rattle.channel_laws.specs.Recoveries.{WrittenIsRead, WrittenHasRoom}
 use Rattle.channel_laws.proofs.Told.{all_at}
 
@@ -50,8 +51,7 @@ pub record IsLetterRead (a : Account) (o : ControlOrigin) (h : Header) (bytes : 
   pub at_place : o.ns ≡ a.first_given + place
   pub there : slice_get a.given place ≡ Some letter
   pub session : h.session ≡ letter.session
-  pub reads : IsReadAs letter.message (body_of bytes h)
-  pub spelled : IsSpelled letter
+  pub reads : ReadsLetter letter (body_of bytes h)
 
 -- or none
 pub record IsNoneRead (o : ControlOrigin) (h : Header) (bytes : List ℕ) : Type 0 where
@@ -75,7 +75,7 @@ pub record StopRead (tunnel told result : ℕ) (error : Option ℕ) (h : Header)
   pub reads : IsReadAs (StopCcn 0 result error) (body_of bytes h)
 
 -- what a recovery says is known to every reader
-known_of : (w : World) (h : History) (p : Packet) (own named : ℕ) (m : Message) → SaysRecovery w h p own named m → IsKnownTo m Base
+known_of : (w : World) (h : History) (p : Packet) (own named : ℕ) (m : Message) → SaysRecovery w h p own named m → IsKnownTo m Queries
 known_of w h p own named _ (AsksFor r o is peer id recovery draw) = tt
 known_of w h p own named _ (Suggests f o is to id suggested attempt) = tt
 known_of w h p own named _ (Confirms f response is attempt from le) = tt
@@ -101,9 +101,10 @@ module _ (codecs : Codecs) where
       true≢false (sym control ∙ ap (λ (x : Header). x.control) (same_header codecs made h _ _ c (let a = d.are in rw a at plain)))
 
   -- whatever secret it is read with
-  pub copy_read : (a : Account) (p : Packet) (o : ControlOrigin) (secret : Option (List ℕ)) (h : Header) → a.remote < 65536 → AllByRecursion IsSpelled a.given
+  pub copy_read : (again : WrittenIsRead) (room : WrittenHasRoom) (epoch : ℕ) (a : Account) (p : Packet) (o : ControlOrigin)
+      (secret : Option (List ℕ)) (h : Header) → a.remote < 65536 → AllByRecursion (IsSpelledIn epoch) a.given
       → (copy : IsCopy a p o) → header_of (uncovered_datagram secret p.bytes) ≡ Ok h → CopyRead a o copy.tunnel h (uncovered_datagram secret p.bytes)
-  copy_read a p o secret h fits spelled copy e = by copy.says
+  copy_read again room epoch a p o secret h fits spelled copy e = by copy.says
     where
       t : copy.tunnel < 65536
       t = ⊎_elim (λ k. let z = k.0 in omega arith) (λ k. let z = k.1 in omega arith) copy.named
@@ -113,9 +114,10 @@ module _ (codecs : Codecs) where
 
       by : Says a o copy.tunnel p.bytes → CopyRead a o copy.tunnel h bytes
       by (ALetter l place full at_place there are) =
-          let s = all_at IsSpelled a.given place l there spelled in
-          let u = letter_read codecs secret l copy.tunnel o.ns o.nr p.bytes t s are in
-          let r = control_read copy.tunnel l.session (on_wire o.ns) (on_wire o.nr) u.body bytes h t s.session (on_wire_fits o.ns) (on_wire_fits o.nr) u.few u.is e in
+          let s = all_at (IsSpelledIn epoch) a.given place l there spelled in
+          let u = letter_read codecs again room secret epoch l copy.tunnel o.ns o.nr p.bytes t are s in
+          let r = control_read copy.tunnel l.session (on_wire o.ns) (on_wire o.nr) u.body bytes h t u.session (on_wire_fits o.ns)
+          (on_wire_fits o.nr) u.few u.is e in
           record {
             control = r.control;
             tunnel_is = r.tunnel_is;
@@ -129,7 +131,6 @@ module _ (codecs : Codecs) where
               there = there;
               session = r.session_is;
               reads = rw r.body u.reads;
-              spelled = s;
             });
           }
       by (Nothing empty are) =
@@ -156,11 +157,12 @@ module _ (codecs : Codecs) where
 
   -- what an end wrote of a recovery
   module _ (again : WrittenIsRead) (room : WrittenHasRoom) where
-    pub recovery_read : (named number nr : ℕ) (m : Message) (bytes : List ℕ) (secret : Option (List ℕ)) (h : Header) → named < 65536 → nr < 65536 → IsKnownTo m Base
+    pub recovery_read : (named number nr : ℕ) (m : Message) (bytes : List ℕ) (secret : Option (List ℕ)) (h : Header) → named < 65536
+        → nr < 65536 → IsKnownTo m Queries
         → IsWritten m → bytes ≡ control_bytes named 0 (on_wire number) nr (spelling (pairs_of m)) → header_of (uncovered_datagram secret bytes) ≡ Ok h
         → (h.tunnel ≡ named) × (message_in (body_of (uncovered_datagram secret bytes) h) ≡ Ok m)
     recovery_read named number nr m bytes secret h t n known written are e =
-        let both = again Base m known written in
+        let both = again Queries m known written in
         let pairs = spelling (pairs_of m) in
         let few = room m written in
         let stays = ap (uncovered_datagram secret) are

@@ -16,7 +16,7 @@ use Rattle.control_message.specs.declared.message.Opening.{Opening}
 use Rattle.control_message.specs.declared.message.Read.{Read}
 use Rattle.control_message.specs.declared.message.Read.TheVariants.{Known, Ignored}
 use Rattle.control_message.specs.Pairs.{pairs_of}
-use Rattle.control_message.specs.Reading.{message_of, message_by, kind_by}
+use Rattle.control_message.specs.Reading.{message_by, kind_by}
 use Rattle.end_names.specs.Names.{address_of, node_of}
 use Rattle.end_model.specs.declared.event.Addressee.TheVariants.{Opens, Recovers, Stops, Answers, Nobody}
 use Rattle.end_model.specs.declared.event.Event.{Event}
@@ -24,7 +24,7 @@ use Rattle.end_model.specs.declared.moves.Declined.{Declined}
 use Rattle.end_model.specs.declared.moves.Move.TheVariants as move
 use Rattle.end_model.specs.declared.moves.Restored.{Restored}
 use Rattle.end_model.specs.declared.out.Origin.{Origin}
-use Rattle.end_model.specs.Reading.{message_in, pairs_read, message_read, at_zero, zero_pairs, zero_read}
+use Rattle.end_model.specs.Reading.{message_in, pairs_read, message_read, at_zero, zero_pairs, zero_read, message_said}
 use Rattle.end_model.specs.End.{End, decline_origin}
 use Rattle.world_model.specs.declared.packet.Packet.{Packet}
 use Rattle.world_model.specs.World.{World, Sender, Deed, packet_from}
@@ -35,8 +35,9 @@ use Rattle.step_laws.specs.Opens.{empty_opens_none}
 use Rattle.frame_laws.specs.Codecs.{Codecs}
 use Rattle.frame_laws.specs.Plain.{IsReadAs, AsAMessage, AsAFault, message_there, for_no_tunnel}
 use Rattle.connection_laws.specs.Facts.{IsNoOpening}
-use Rattle.connection_laws.proofs.Alike.{IsNoRequest, same_alike, read_same, read_sound}
+use Rattle.connection_laws.proofs.Alike.{IsNoRequest, same_alike, read_sound}
 use Rattle.connection_laws.proofs.Hearing.{no_message, first_only}
+use Rattle.channel_laws.proofs.Spelled.{letter_same, closing_read, IsPlainRead, IsQueryRead, query_for_none}
 use Rattle.channel_laws.specs.Accounts.{Opener, Account, History, declined_by, after}
 use Rattle.channel_laws.specs.Facts.{IsCopy, SaysRecovery, AsksFor, Suggests, Confirms, Refuses, OriginOk, PacketOk, Holds}
 use Rattle.channel_laws.specs.Recoveries.{WrittenIsRead, WrittenHasRoom}
@@ -90,7 +91,7 @@ read_answers avps (Err x) m r said h = absurd cc
 
 pairs_answer : (x : Result (List Avp) AvpError) (m : Message) (r : ℕ) → pairs_read x ≡ Ok m → zero_pairs x ≡ Answers r → IsReply m
 unfolding pairs_read zero_pairs
-pairs_answer (Ok avps) m r said h = read_answers avps (message_of avps) m r said h
+pairs_answer (Ok avps) m r said h = read_answers avps (message_said avps) m r said h
 pairs_answer (Err x) m r said h = absurd cc
 
 answers_said : (body : List ℕ) (m : Message) (r : ℕ) → message_in body ≡ Ok m → at_zero body ≡ Answers r → IsReply m
@@ -169,7 +170,7 @@ module _ (codecs : Codecs) (again : WrittenIsRead) (room : WrittenHasRoom) (w : 
     by_opening : (o : Opening) → message_in body ≡ Ok (Sccrq o) → m.remote ≡ o.tunnel → IsDeclinedFor h n m
     by_opening o said told = ⊎_elim
         (λ (q : IsLetterRead (a 0) f.o d.header d.bytes).
-        let message = read_same q.letter.message body q.reads (Sccrq o) said tt in
+        let message = letter_same q.letter body q.reads (Sccrq o) said tt in
         let asks = asks_first w h holds p.from f.o.tunnel q.place q.letter o q.there message copy.made in
         let same : h.accounts (node_of m.peer) m.remote 0 ≡ a 0 = ap₂ (λ y z. h.accounts y z 0) node (told ∙ asks.told) in
         let zero = ((holds.accounts p.from f.o.tunnel 0).from_none refl).0 in
@@ -198,14 +199,17 @@ module _ (codecs : Codecs) (again : WrittenIsRead) (room : WrittenHasRoom) (w : 
     by_why : WhyDeclined e body m → IsDeclinedFor h n m
     by_why (AnOpening o said plain told unknown against) = by_opening o said told
     by_why (ARecovery o said r asks told against) = by_opening o said told
-    by_why (AFaultyOpening g to unknown is on result error) = absurd (⊎_elim
+    by_why (AFaultyOpening g to unknown fault on result error) = absurd (⊎_elim
         (λ (q : IsLetterRead (a 0) f.o d.header d.bytes).
-        let none = read_sound q.letter.message body q.reads in
+        let none = read_sound q.letter.message body (closing_read q.letter body q.reads g fault).reads in
         let no : ⊥ = cc in no)
         (λ (q : IsNoneRead f.o d.header d.bytes). empty_opens_none m.remote (ap at_zero (sym q.body) ∙ to))
         says)
     by_why (AnAnswer to result error) = absurd (⊎_elim
-        (λ (q : IsLetterRead (a 0) f.o d.header d.bytes). no_reply q (read_answers_as q.letter.message body q.reads m.remote to))
+        (λ (q : IsLetterRead (a 0) f.o d.header d.bytes). ⊎_elim
+        (λ (r : IsPlainRead q.letter body). no_reply q (read_answers_as q.letter.message body r.reads m.remote to))
+        (λ (r : IsQueryRead q.letter body). let both = sym (query_for_none q.letter body r) ∙ to in absurd cc)
+        q.reads)
         (λ (q : IsNoneRead f.o d.header d.bytes). empty_answers_none m.remote (ap at_zero (sym q.body) ∙ to))
         says)
 

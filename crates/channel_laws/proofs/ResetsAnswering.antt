@@ -11,6 +11,7 @@ use Rattle.end_model.specs.End.{End}
 use Rattle.world_model.specs.declared.standing.Standing.{Standing}
 use Rattle.world_model.specs.World.{World, Node, Sender, Deed, epoch_of, standing_of, enters_epoch, moved}
 use Rattle.step_laws.specs.Moves.{ResetsAnswering}
+use Rattle.channel_laws.proofs.Sessions.{sessions_fit}
 use Rattle.channel_laws.specs.Accounts.{Account, renewed, History, after}
 use Rattle.channel_laws.specs.Facts.{makes, AreLinked, AnswerOk, BeginsBy, AsGiver, AsPeer, IsRenewed, IsRecovered, LiveOk, EndOk, BookOk, NodeOk, Holds}
 use Rattle.channel_laws.specs.Epochs.{OfOneLink}
@@ -172,4 +173,5 @@ module _ (w : World) (h : History) (n : ℕ) (node : Node) (sender : Option Send
         undeclined = refl;
         current = reset_current (ByAnswer does.new) moment does.same.2;
         recovered = recovered;
+        sessions = sessions_fit node.end k.fit i does.tunnel does.there live.calls;
       }))

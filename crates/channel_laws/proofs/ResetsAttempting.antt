@@ -21,6 +21,7 @@ use Rattle.world_model.specs.World.{World, Node, Sender, Deed, epoch_of, standin
 use Rattle.step_laws.specs.Moves.{ResetsAttempting}
 use Rattle.frame_laws.specs.Codecs.{Codecs}
 use Rattle.connection_laws.proofs.Hearing.{no_message}
+use Rattle.channel_laws.proofs.Sessions.{sessions_fit}
 use Rattle.channel_laws.specs.Accounts.{Account, renewed, History, after}
 use Rattle.channel_laws.specs.Facts.{IsMade, makes, AreLinked, AttemptOk, AnswerOk, BeginsBy, AsGiver, AsPeer, IsRenewed, IsRecovered, LiveOk, EndOk, BookOk, NodeOk, SaysRecovery, AsksFor, Suggests, Confirms, Refuses, Holds}
 use Rattle.channel_laws.specs.Recoveries.{WrittenIsRead, WrittenHasRoom}
@@ -270,4 +271,5 @@ module _ (codecs : Codecs) (again : WrittenIsRead) (room : WrittenHasRoom) (w : 
         undeclined = refl;
         current = reset_current (ByAttempt does.new) moment does.same.3;
         recovered = recovered;
+        sessions = sessions_fit node.end k.fit i does.tunnel does.there live.calls;
       }))

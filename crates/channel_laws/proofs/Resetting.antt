@@ -16,7 +16,7 @@ use Rattle.end_model.specs.End.{End}
 use Rattle.world_model.specs.declared.standing.Standing.{Standing}
 use Rattle.world_model.specs.World.{World, Node, standing_of, epoch_of}
 use Rattle.channel_laws.specs.Accounts.{Part, Unmade, Opener, Acceptor, Renewed, Taken, Account, no_account, History}
-use Rattle.channel_laws.specs.Facts.{IsMade, partner_in, IsShut, IsLost, IsAnswered, IsInState, AreAcked, ChannelOk, IsRecovered, LiveOk, IsCopy, SaysRecovery, AsksFor, Suggests, Confirms, Refuses, OriginOk, PacketOk, IsRenewed, AccountOk, IdsOk, BookOk, NodeOk, StandingOk, Holds, makes}
+use Rattle.channel_laws.specs.Facts.{IsMade, partner_in, IsShut, IsLost, IsAnswered, IsInState, AreAcked, ChannelOk, IsRecovered, LiveOk, IsCopy, SaysRecovery, AsksFor, Suggests, Confirms, Refuses, OriginOk, PacketOk, IsRenewed, AccountOk, IdsOk, BookOk, NodeOk, StandingOk, Holds, makes, QueryOk}
 use Rattle.channel_laws.proofs.Growing.{Grows, account_grows, answers_grow, packets_grow}
 use Rattle.channel_laws.proofs.Anew.{Begins, here_or_not, first, knows_on, booked_on, attempt_on, answer_on, taken_on, account_on}
 
@@ -109,6 +109,7 @@ module _ (h k : History) (n i e : ℕ) (new : Account) (b : Begins h k n i e new
     recovery = λ r is. recovered_on w m j r (ok.recovery r is);
     unattempted = λ early a r is own. ok.unattempted early a r (sym (b.attempts m a) ∙ is) own;
     calls = ok.calls;
+    query = ok.query;
   }
 
   -- ---- packets
@@ -214,6 +215,7 @@ module _ (w v : World) (h k : History) (n i e : ℕ) (new : Account) (b : Begins
     recovery = λ r is. recovered_grows m j r o (ok.recovery r is);
     unattempted = ok.unattempted;
     calls = ok.calls;
+    query = subst (λ u. QueryOk u t.query) (sym (ap (λ (s : Standing). s.epoch) (standings m j o))) ok.query;
   })
 
   some_before : {X : Type 0} (x y : Option X) → x ≡ y → is_some x ≡ true → is_some y ≡ true

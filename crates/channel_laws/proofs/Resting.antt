@@ -15,7 +15,7 @@ use Rattle.world_model.specs.declared.stop.StopAt.{StopAt}
 use Rattle.world_model.specs.World.{World, Node, no_standing, standing_in, standing_of, epoch_of, answer_in, with_node, with_stop, counts_of, lost_with, loses_counts, fallen, without_held, block_of, new_node, empty_world}
 use Rattle.node_laws.specs.Nodes.{HoldsNode}
 use Rattle.channel_laws.specs.Accounts.{Unmade, Account, History, no_account, no_history}
-use Rattle.channel_laws.specs.Facts.{IsMade, makes, IsRecovered, ChannelOk, LiveOk, EndOk, BookOk, NodeOk, StandingOk, PacketOk, Holds}
+use Rattle.channel_laws.specs.Facts.{IsMade, makes, IsRecovered, ChannelOk, LiveOk, EndOk, BookOk, NodeOk, StandingOk, PacketOk, Holds, QueryOk}
 use Rattle.channel_laws.proofs.Growing.{Grows, account_grows, answers_grow, packets_grow}
 
 -- ---- a world of which each node is as before, but for parts of which nothing is said
@@ -128,6 +128,7 @@ module _ (w v : World) (h : History) (rests : (n : ℕ) → RestsBy h n (at w.no
     recovery = λ r is. recovered_rests n i r (ok.recovery r is);
     unattempted = ok.unattempted;
     calls = ok.calls;
+    query = subst (λ e. QueryOk e t.query) (sym (epochs_rest n i)) ok.query;
   }
 
   pub end_rests : (n : ℕ) (e : End) → ((i : ℕ) → (standing_of v n i).lost ≡ (standing_of w n i).lost) → EndOk w h n e → EndOk v h n e
@@ -391,6 +392,7 @@ module _ (w : World) (h : History) (n : ℕ) (new : Node) (lt : n < 256) (none :
       recovery = λ r is. recovered_as m i r (ok.recovery r is);
       unattempted = ok.unattempted;
       calls = ok.calls;
+      query = subst (λ e. QueryOk e t.query) (sym (ap (λ (s : Standing). s.epoch) (standing_as m i))) ok.query;
     }
 
     other_as : (m : ℕ) (o : Option Node) → NodeOk w h m o → NodeOk grown h m o

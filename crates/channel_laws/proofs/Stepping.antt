@@ -28,6 +28,7 @@ use Rattle.book_laws.proofs.Ceilings.{rose_none}
 use Rattle.book_laws.proofs.Lists.{entry_has}
 use Rattle.book_laws.proofs.Steps.{SpacesRose, chain_spaces, high, high_drawn, ChainGoes, chain_goes}
 use Rattle.connection_laws.specs.Steps.{IsDeed}
+use Rattle.channel_laws.specs.Recoveries.{WrittenIsRead, WrittenHasRoom}
 use Rattle.channel_laws.specs.Accounts.{Account, History, about, after, history_from}
 use Rattle.channel_laws.specs.Facts.{EndOk, BookOk, NodeOk, PacketOk, Holds}
 use Rattle.channel_laws.specs.Steps.{Comes, with_end, moves_on, IsMoved, Keeps, IsStill}
@@ -84,7 +85,8 @@ chain_both moment ev e y x (m ∷ ms) ns first second = (first.0, first.1, chain
 front_on : (ms made rest : List Move) (m : Move) → ms ≡ made ++ (m ∷ rest) → ms ≡ (made ++ m ∷ []) ++ rest
 front_on ms made rest m is = is ∙ sym (append_assoc made (m ∷ []) rest)
 
-module _ (any : (m : Move) → IsOfNoStart m → Keeps m) (codecs : Codecs) (J : World → History → List Move → Type 0) (n : ℕ) (sender : Option Sender) (moment : ℕ) (ev : Event)
+module _ (any : (m : Move) → IsOfNoStart m → Keeps m) (codecs : Codecs) (again : WrittenIsRead) (room_is : WrittenHasRoom)
+    (J : World → History → List Move → Type 0) (n : ℕ) (sender : Option Sender) (moment : ℕ) (ev : Event)
     (along : IsAlong J n sender moment ev) (number : ℕ) (w0 b0 : World) (e0 z : End) (c0 : Checkpoint) (fit0 : Fits e0) (book0 : IsBook e0 c0.book) (ms : List Move)
     (starts : AllByRecursion IsOfNoStart ms) (chain : Chain moment ev e0 ms z) (top most : ℕ) (enough : 65535 ≤ top) (room : top + 16384 ≤ most)
     (small : most + 65540 < 2 ^ 64) (few : reads_in ms ≤ 1) where
@@ -291,7 +293,8 @@ module _ (any : (m : Move) → IsOfNoStart m → Keeps m) (codecs : Codecs) (J :
         checkpoint = own.3 ∙ a.checkpoint;
         holds = holds_then;
         keeps = subst (λ q. J v q more) same (along.moves w h made node m y d start is_moved a.keeps holds_by);
-        comes = comes_then codecs w h n node sender moment ev m y d is_moved start (after h (deed m)) holds_then own.0 own.1 own.2;
+        comes = comes_then codecs again room_is w h n node sender moment ev m y d is_moved start (after h (deed m)) holds_then own.0 own.1
+            own.2;
         unbooked = unbooked_then;
         active = active_more;
         below = below_then;

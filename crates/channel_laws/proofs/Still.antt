@@ -32,7 +32,7 @@ use Rattle.step_laws.specs.Moves.{LearnsOfReply}
 use Rattle.frame_laws.specs.Codecs.{Codecs}
 use Rattle.connection_laws.specs.Facts.{AllWait}
 use Rattle.channel_laws.specs.Accounts.{Part, Unmade, Opener, Acceptor, Renewed, Account, History, about, declined_in, declines_of, entered_by, after_deed, attempts_by, answers_by, after}
-use Rattle.channel_laws.specs.Facts.{Accounts, IsOpen, IsShut, partner_in, KnowsBy, makes, IsInState, ChannelOk, IsRecovered, LiveOk, EndOk, BookOk, NodeOk, Holds}
+use Rattle.channel_laws.specs.Facts.{Accounts, IsOpen, IsShut, partner_in, KnowsBy, makes, IsInState, ChannelOk, IsRecovered, LiveOk, EndOk, BookOk, NodeOk, Holds, QueryOk}
 use Rattle.channel_laws.specs.Steps.{with_end, moves_on, IsMoved, IsStill, StillMovesKeep}
 use Rattle.channel_laws.specs.Recoveries.{WrittenIsRead, WrittenHasRoom}
 use Rattle.channel_laws.proofs.Replying.{learned_answer}
@@ -196,6 +196,7 @@ record IsAs (t u : Tunnel) : Type 0 where
   letters : u.letters ≡ t.letters
   waits : AllWait t.calls → AllWait u.calls
   none : t.calls ≡ [] → u.calls ≡ []
+  query : u.query ≡ t.query
 
 channel_as : (accs : Accounts) (n i e : ℕ) (a : Account) (t u : Tunnel) → IsAs t u → ChannelOk accs n i e a t → ChannelOk accs n i e a u
 channel_as accs n i e a t u s c = record {
@@ -228,6 +229,7 @@ module _ (w : World) (h : History) (n i : ℕ) (t u : Tunnel) (live : LiveOk w h
     recovery = recovered;
     unattempted = λ early. live.unattempted (let e = ap state_number s.state in omega (arith, e, early));
     calls = calls;
+    query = subst (QueryOk (epoch_of w n i)) (sym s.query) live.query;
   }
 
 -- ---- recovery tunnels
@@ -380,6 +382,7 @@ window_as t c only le =
       letters = refl;
       waits = λ q. q;
       none = λ q. q;
+      query = refl;
     }
 
 pub still_moves_keep : Codecs → WrittenIsRead → WrittenHasRoom → StillMovesKeep
@@ -401,14 +404,40 @@ still_moves_keep codecs again room (move.Ignored i) still w h n node sender mome
     let c = k.does in
     by_end w h n node sender moment ev x d (move.Ignored i) still k refl
     (put_end w h n node sender moment ev x d (move.Ignored i) k i c.tunnel _ _ c.there c.after refl (record { config = refl; role = refl; ids = omega arith })
-    (record { local = refl; peer = refl; remote = refl; state = refl; acked = refl; queued = refl; outstanding = λ le. le; taken = refl; letters = refl; waits = λ q. q; none = λ q. q }) refl
+    (record {
+      local = refl;
+      peer = refl;
+      remote = refl;
+      state = refl;
+      acked = refl;
+      queued = refl;
+      outstanding = λ le. le;
+      taken = refl;
+      letters = refl;
+      waits = λ q. q;
+      none = λ q. q;
+      query = refl;
+    }) refl
     (λ live r is. live.recovery r is) (λ live q call is. live.calls q call is))
 still_moves_keep codecs again room (move.RecoveryEnded i) still w h n node sender moment ev x d k =
     let c = k.does in
     by_end w h n node sender moment ev x d (move.RecoveryEnded i) still k refl
     (put_end w h n node sender moment ev x d (move.RecoveryEnded i) k i c.tunnel (record c.tunnel { recovery = None }) _ c.there c.after refl
     (record { config = refl; role = refl; ids = omega arith })
-    (record { local = refl; peer = refl; remote = refl; state = refl; acked = refl; queued = refl; outstanding = λ le. le; taken = refl; letters = refl; waits = λ q. q; none = λ q. q })
+    (record {
+      local = refl;
+      peer = refl;
+      remote = refl;
+      state = refl;
+      acked = refl;
+      queued = refl;
+      outstanding = λ le. le;
+      taken = refl;
+      letters = refl;
+      waits = λ q. q;
+      none = λ q. q;
+      query = refl;
+    })
     (sym (ap (λ r. is_current (mode_of r)) c.has ∙ finished_current c.old c.finished))
     (λ live r is. absurd cc) (λ live q call is. live.calls q call is))
 still_moves_keep codecs again room (move.RecoveryWentOn i) still w h n node sender moment ev x d k =
@@ -417,7 +446,20 @@ still_moves_keep codecs again room (move.RecoveryWentOn i) still w h n node send
     by_end w h n node sender moment ev x d (move.RecoveryWentOn i) still k refl
     (put_end w h n node sender moment ev x d (move.RecoveryWentOn i) k i c.tunnel (record c.tunnel { recovery = Some new }) _ c.there c.after refl
     (record { config = refl; role = refl; ids = omega arith })
-    (record { local = refl; peer = refl; remote = refl; state = refl; acked = refl; queued = refl; outstanding = λ le. le; taken = refl; letters = refl; waits = λ q. q; none = λ q. q })
+    (record {
+      local = refl;
+      peer = refl;
+      remote = refl;
+      state = refl;
+      acked = refl;
+      queued = refl;
+      outstanding = λ le. le;
+      taken = refl;
+      letters = refl;
+      waits = λ q. q;
+      none = λ q. q;
+      query = refl;
+    })
     (ap is_current (same_mode w h n i c.channel c.closed c.remote c.old) ∙ sym (ap (λ r. is_current (mode_of r)) c.has))
     (λ live r is. (let one : Some new ≡ Some r = is in let same : new ≡ r = cc in
     subst (IsRecovered w h n i) same (goes_recovered w h n i c.channel c.closed c.remote ev c.tunnel.control.peer c.old c.learns
@@ -457,6 +499,7 @@ still_moves_keep codecs again room (move.Negotiated m) still w h n node sender m
       letters = refl;
       waits = up_waits c.tunnel.calls m.session c.call new c.live c.up;
       none = up_none c.tunnel.calls m.session c.call new c.live;
+      query = refl;
     }) refl
     (λ live r is. live.recovery r is) (λ live q call is. put_fits c.tunnel.calls m.session c.call new c.live refl live.calls q call is))
 still_moves_keep codecs again room (move.Counted m) still w h n node sender moment ev x d k =
@@ -476,6 +519,7 @@ still_moves_keep codecs again room (move.Counted m) still w h n node sender mome
       letters = refl;
       waits = up_waits c.tunnel.calls m.session c.call (counted c.call) c.live c.up;
       none = up_none c.tunnel.calls m.session c.call (counted c.call) c.live;
+      query = refl;
     }) refl
     (λ live r is. live.recovery r is) (λ live q call is. put_fits c.tunnel.calls m.session c.call (counted c.call) c.live refl live.calls q call is))
 still_moves_keep codecs again room (move.EndSilent m) still w h n node sender moment ev x d k =
@@ -496,6 +540,7 @@ still_moves_keep codecs again room (move.EndSilent m) still w h n node sender mo
       letters = refl;
       waits = fewer_wait c.tunnel.calls m.session order;
       none = fewer_none c.tunnel.calls m.session c.call c.live;
+      query = refl;
     }) refl
     (λ live r is. live.recovery r is) (λ live q call is. live.calls q call (found_without c.tunnel.calls m.session q call order is).1))
 still_moves_keep codecs again room m still w h n node sender moment ev x d k = absurd still

@@ -41,11 +41,13 @@ use Rattle.step_laws.specs.Letters.{Letter}
 use Rattle.step_laws.specs.Moves.{with_tunnel, with_letter, with_letter_as, without_call, WhyRefused, IsNotGranted, IsOutgoing, IsReplyToNone, IsWrong}
 use Rattle.frame_laws.specs.Codecs.{Codecs}
 use Rattle.frame_laws.specs.Plain.{AreAlike}
+use Rattle.control_message.specs.Pairs.{IsWritten as IsWrittenByCodec}
 use Rattle.frame_laws.specs.Written.{IsWritten}
 use Rattle.connection_laws.specs.Facts.{Tells}
-use Rattle.connection_laws.proofs.Alike.{IsNoRequest, read_alike, read_same, read_written, read_faulty, request_alike}
+use Rattle.connection_laws.proofs.Alike.{IsNoRequest, read_faulty, request_alike}
+use Rattle.channel_laws.proofs.Spelled.{letter_same, letter_alike, letter_written, query_written, faultily_read}
 use Rattle.channel_laws.specs.Accounts.{Account, History, declines_of, attempts_by, answers_by, after}
-use Rattle.channel_laws.specs.Facts.{ChannelOk, Holds}
+use Rattle.channel_laws.specs.Facts.{ChannelOk, Holds, IsOfQuery}
 use Rattle.channel_laws.specs.Recoveries.{WrittenIsRead, WrittenHasRoom}
 use Rattle.channel_laws.specs.Steps.{with_end, moves_on, IsMoved}
 use Rattle.channel_laws.proofs.Alone.{puts_so}
@@ -116,13 +118,17 @@ module _ (h : History) (n i e : ℕ) (sender : Option Sender) (ev : Event) (t : 
   said_there = ap message_in (sym next.comes.came.body_is) ∙ said
 
   pub says_alike : AreAlike s.letter.message says
-  says_alike = read_alike s.letter.message (body_of next.comes.came.bytes letter.header) s.reads says said_there
+  says_alike = letter_alike s.letter (body_of next.comes.came.bytes letter.header) s.reads says said_there
 
-  pub says_written : IsWritten says
-  says_written = read_written s.letter.message (body_of next.comes.came.bytes letter.header) s.reads says said_there
+  pub says_written : (IsOfQuery says → ⊥) → IsWritten says
+  says_written other = letter_written s.letter (body_of next.comes.came.bytes letter.header) s.reads says said_there other
 
   pub says_same : IsNoRequest says → s.letter.message ≡ says
-  says_same plain = read_same s.letter.message (body_of next.comes.came.bytes letter.header) s.reads says said_there plain
+  says_same plain = letter_same s.letter (body_of next.comes.came.bytes letter.header) s.reads says said_there plain
+
+  -- a question for sessions, or an answer
+  pub says_query : IsOfQuery says → IsWrittenByCodec says
+  says_query of = (query_written s.letter (body_of next.comes.came.bytes letter.header) s.reads says said_there of).1
 
 -- a call that was asked for has the id that the other end gave it
 asked_remote : (r : Role) (remote moment : ℕ) → (asked_for r remote moment).remote ≡ remote
@@ -169,7 +175,7 @@ module _ (codecs : Codecs) (again : WrittenIsRead) (room : WrittenHasRoom) (clas
       )
       tt tt tt
       (puts_so node.end x (without_call node.end i (record t { control = counts_taken t.control }) m.session) i u o.after (record { config = refl; role = refl; tunnels = refl }))
-      (ap (λ (y : End). y.tunnel_ids) o.after)
+      (ap (λ (y : End). y.tunnel_ids) o.after) live.query
 
   pub second_up_later : (m : SecondUp) → IsMoved w h n node sender moment ev (move.SecondUp m) x d → (epoch_of w n m.tunnel ≡ 0 → ⊥)
       → Holds (moves_on w n node (move.SecondUp m) x) (after h d)
@@ -199,7 +205,7 @@ module _ (codecs : Codecs) (again : WrittenIsRead) (room : WrittenHasRoom) (clas
       )
       tt tt tt
       (puts_so node.end x (with_places node.end i u (with_look (cell.Bind m.session m.tunnel t.control.peer) node.end.calls)) i u o.after (record { config = refl; role = refl; tunnels = refl }))
-      (ap (λ (y : End). y.tunnel_ids) o.after)
+      (ap (λ (y : End). y.tunnel_ids) o.after) live.query
 
   pub first_up_later : (m : FirstUp) → IsMoved w h n node sender moment ev (move.FirstUp m) x d → (epoch_of w n m.tunnel ≡ 0 → ⊥)
       → Holds (moves_on w n node (move.FirstUp m) x) (after h d)
@@ -220,7 +226,7 @@ module _ (codecs : Codecs) (again : WrittenIsRead) (room : WrittenHasRoom) (clas
       let live = live_later codecs again room classes w h n node sender moment ev mv x d k t o.there o.current later plain v refl alike in
       let channel = channel_so codecs again room classes w h n node sender moment ev mv x d k t o.there o.current later plain v refl alike in
       let s = next_so codecs again room classes w h n node sender moment ev mv x d k t o.there o.current later plain v refl alike o.letter o.takes.next m.taken o.takes.taken_is in
-      let fits : m.remote < 65536 = (says_written h n i e sender ev t o.letter o.takes.next s (Icrp m.remote) o.says.said).0 in
+      let fits : m.remote < 65536 = (says_written h n i e sender ev t o.letter o.takes.next s (Icrp m.remote) o.says.said (λ z. z)).0 in
       takes_hold codecs again room classes w h n node sender moment ev mv x d k t o.there o.current later plain v refl alike o.letter o.takes.next m.taken o.takes.taken_is
       (l ∷ []) u
       (took_and_given_goes h.accounts n i e (h.accounts n i e) t channel (k.counts i t o.there o.current) o.open_is calls
@@ -228,9 +234,9 @@ module _ (codecs : Codecs) (again : WrittenIsRead) (room : WrittenHasRoom) (clas
       l o.room)
       o.open_is (takes_and_gives d n node.end.role sender mv m.taken (h.accounts n i e) k.deed)
       (sym s.session ∙ o.says.session_is, says_same h n i e sender ev t o.letter o.takes.next s (Icrp m.remote) o.says.said tt)
-      (record { written = (omega arith, omega arith, refl); hides = tt; session = fits }, tt) (tt, tt) (tt, tt)
+      (inl (record { written = (omega arith, omega arith, refl); hides = tt; session = fits }), tt) (tt, tt) (tt, tt)
       (puts_so node.end x (with_places node.end i u (with_look (cell.Establish m.session) node.end.calls)) i u o.after (record { config = refl; role = refl; tunnels = refl }))
-      (ap (λ (y : End). y.tunnel_ids) o.after)
+      (ap (λ (y : End). y.tunnel_ids) o.after) live.query
 
   pub replied_later : (m : Replied) → IsMoved w h n node sender moment ev (move.Replied m) x d → (epoch_of w n m.tunnel ≡ 0 → ⊥)
       → Holds (moves_on w n node (move.Replied m) x) (after h d)
@@ -251,7 +257,8 @@ module _ (codecs : Codecs) (again : WrittenIsRead) (room : WrittenHasRoom) (clas
       let live = live_later codecs again room classes w h n node sender moment ev mv x d k t o.there o.current later plain v refl alike in
       let channel = channel_so codecs again room classes w h n node sender moment ev mv x d k t o.there o.current later plain v refl alike in
       let s = next_so codecs again room classes w h n node sender moment ev mv x d k t o.there o.current later plain v refl alike o.letter o.takes.next m.taken o.takes.taken_is in
-      let fits : m.remote < 65536 = (says_written h n i e sender ev t o.letter o.takes.next s (Icrq m.remote o.serial o.calling) o.said).0 in
+      let fits : m.remote < 65536 = (says_written h n i e sender ev t o.letter o.takes.next s (Icrq m.remote o.serial o.calling) o.said
+      (λ z. z)).0 in
       let r = request_alike s.letter.message m.remote o.serial o.calling (says_alike h n i e sender ev t o.letter o.takes.next s (Icrq m.remote o.serial o.calling) o.said) in
       let drawn = draw_is node.end.session_ids m.session o.drawn in
       let id = drawn.0 in
@@ -265,10 +272,10 @@ module _ (codecs : Codecs) (again : WrittenIsRead) (room : WrittenHasRoom) (clas
       l o.room)
       o.open_is (takes_and_gives d n node.end.role sender mv m.taken (h.accounts n i e) k.deed)
       (o.serial, r.calling, r.is)
-      (record { written = (omega (arith, le, last), omega (arith, id, first)); hides = tt; session = fits }, tt) (tt, tt) (tt, tt)
+      (inl (record { written = (omega (arith, le, last), omega (arith, id, first)); hides = tt; session = fits }), tt) (tt, tt) (tt, tt)
       (puts_so node.end x (record (with_tunnel node.end i u) { session_ids = after_id node.end.session_ids; calls = put node.end.calls m.session (new_place m.tunnel) }) i u o.after
       (record { config = refl; role = refl; tunnels = refl }))
-      (ap (λ (y : End). y.tunnel_ids) o.after)
+      (ap (λ (y : End). y.tunnel_ids) o.after) live.query
 
   module _ (m : Refused) (k : IsMoved w h n node sender moment ev (move.Refused m) x d) (later : epoch_of w n m.tunnel ≡ 0 → ⊥) where
     abbrev t : Tunnel
@@ -314,20 +321,25 @@ module _ (codecs : Codecs) (again : WrittenIsRead) (room : WrittenHasRoom) (clas
         let z = says_alike h n m.tunnel e sender ev t k.does.letter k.does.takes.next s (Icrq remote serial calling) said in
         let r = request_alike s.letter.message remote serial calling z in
         record {
-          fits = session_told remote same (says_written h n m.tunnel e sender ev t k.does.letter k.does.takes.next s (Icrq remote serial calling) said).0;
+          fits = session_told remote same (says_written h n m.tunnel e sender ev t k.does.letter k.does.takes.next s
+              (Icrq remote serial calling) said (λ z. z)).0;
           tells = inl (serial, r.calling, r.is ∙ ap (λ q. Icrq q serial r.calling) (sym same));
         }
-    told (IsOutgoing remote said same result error) = absurd (says_written h n m.tunnel e sender ev t k.does.letter k.does.takes.next s (Ocrq remote) said)
+    told (IsOutgoing remote said same result error) = absurd
+        (says_written h n m.tunnel e sender ev t k.does.letter k.does.takes.next s (Ocrq remote) said (λ z. z))
     told (IsReplyToNone remote said none lns same result error) = record {
-      fits = session_told remote same (says_written h n m.tunnel e sender ev t k.does.letter k.does.takes.next s (Icrp remote) said).0;
+      fits = session_told remote same (says_written h n m.tunnel e sender ev t k.does.letter k.does.takes.next s (Icrp remote) said
+          (λ z. z)).0;
       tells = inr (says_same h n m.tunnel e sender ev t k.does.letter k.does.takes.next s (Icrp remote) said tt ∙ ap (λ q. Icrp q) (sym same));
     }
     told (IsWrong f fault same result error) =
         let came = k.does.takes.next.comes.came in
-        let r = read_faulty s.letter.message (body_of came.bytes k.does.letter.header) s.reads f (ap call_fault_in (sym came.body_is) ∙ fault) in
+        let p = faultily_read s.letter (body_of came.bytes k.does.letter.header) s.reads f (ap call_fault_in (sym came.body_is) ∙ fault) in
+        let r = read_faulty s.letter.message (body_of came.bytes k.does.letter.header) p.reads f
+        (ap call_fault_in (sym came.body_is) ∙ fault) in
         let own : m.remote ≡ r.0 = same ∙ ap (λ (y : CallFault). unwrap_or y.session 0) r.4 in
         record {
-          fits = session_told r.0 own (subst IsWritten r.3 s.spelled.written).0;
+          fits = session_told r.0 own (subst IsWritten r.3 p.spelled.written).0;
           tells = inl (r.1, Some r.2, r.3 ∙ ap (λ (y : ℕ). Icrq y r.1 (Some r.2)) (sym own));
         }
 
@@ -346,6 +358,6 @@ module _ (codecs : Codecs) (again : WrittenIsRead) (room : WrittenHasRoom) (clas
         (took_and_given_goes h.accounts n m.tunnel e (h.accounts n m.tunnel e) t channel (k.counts m.tunnel t o.there o.current) o.open_is t.calls live.calls l o.room)
         o.open_is (takes_and_gives d n node.end.role sender mv m.taken (h.accounts n m.tunnel e) k.deed)
         is.tells
-        (record { written = (omega arith, codes.0, codes.1); hides = tt; session = is.fits }, tt) (tt, tt) (tt, tt)
+        (inl (record { written = (omega arith, codes.0, codes.1); hides = tt; session = is.fits }), tt) (tt, tt) (tt, tt)
         (puts_so node.end x (with_tunnel node.end m.tunnel u) m.tunnel u o.after (record { config = refl; role = refl; tunnels = refl }))
-        (ap (λ (y : End). y.tunnel_ids) o.after)
+        (ap (λ (y : End). y.tunnel_ids) o.after) live.query

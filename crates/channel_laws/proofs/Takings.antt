@@ -6,6 +6,7 @@ use Rattle.end_model.specs.declared.moves.Move.TheVariants as move
 use Rattle.world_model.specs.World.{epoch_of}
 use Rattle.frame_laws.specs.Codecs.{Codecs}
 use Rattle.connection_laws.specs.Steps as calm_steps
+use Rattle.channel_laws.proofs.Querying.{answered_query_keeps, took_answer_keeps}
 use Rattle.channel_laws.specs.Recoveries.{WrittenIsRead, WrittenHasRoom}
 use Rattle.channel_laws.specs.Steps.{OpeningMovesKeep, TakingMovesKeep}
 use Rattle.channel_laws.proofs.Learning.{confirmed_keeps, connected_keeps, rejected_keeps}
@@ -60,4 +61,8 @@ taking_moves_keep laws codecs again room classes (move.ClosedBy m) of w h n node
     (λ (zero : epoch_of w n m.tunnel ≡ 0). closed_by_first laws codecs again room w h n node sender moment ev x d m k zero)
     (λ (later : epoch_of w n m.tunnel ≡ 0 → ⊥). closed_by_later codecs again room classes w h n node sender moment ev x d m k later)
     (same_or_not (epoch_of w n m.tunnel) 0)
+taking_moves_keep laws codecs again room classes (move.AnsweredQuery m) of w h n node sender moment ev x d k =
+    answered_query_keeps laws codecs again room classes w h n node sender moment ev x d m k
+taking_moves_keep laws codecs again room classes (move.TookAnswer m) of w h n node sender moment ev x d k =
+    took_answer_keeps laws codecs again room classes w h n node sender moment ev x d m k
 taking_moves_keep laws codecs again room classes m of w h n node sender moment ev x d k = absurd of

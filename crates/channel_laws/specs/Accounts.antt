@@ -94,6 +94,9 @@ entered_by d (move.Rejected m) a = gives_also d (takes_at d m.taken (record a { 
 entered_by d (move.ClosedBy m) a = takes_at d m.taken (record a { closed = Some (length a.taken) })
 entered_by d (move.Greeted m) a = gives_also d a
 entered_by d (move.TookPlain m) a = takes_at d m.taken a
+entered_by d (move.Queried m) a = gives_also d a
+entered_by d (move.AnsweredQuery m) a = gives_also d (takes_at d m.taken a)
+entered_by d (move.TookAnswer m) a = takes_at d m.taken a
 -- the resets: the end that attempts begins with the numbers of its peer's answer, and the one that answers with those of its own
 entered_by d (move.ResetAttempting m) a = renewed (node_of m.peer) m.remote (record { node = node_of m.peer; tunnel = m.answer }) m.send_from m.expect
 entered_by d (move.ResetAnswering m) a = renewed (node_of m.peer) m.remote (record { node = d.node; tunnel = m.answer }) m.send_from m.expect

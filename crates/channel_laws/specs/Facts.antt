@@ -15,12 +15,14 @@ use Rattle.id_table.specs.Ids.{at}
 use Rattle.l2tp_header.specs.Spelling.{control_bytes}
 use Rattle.avp_codec.specs.Spelling.{spelling}
 use Rattle.control_message.specs.declared.message.Message.{Message}
-use Rattle.control_message.specs.declared.message.Message.TheVariants.{Sccrq, Sccrp, Scccn, StopCcn}
+use Rattle.control_message.specs.declared.message.Message.TheVariants.{Sccrq, Sccrp, Scccn, StopCcn, Fsq, Fsr}
 use Rattle.control_message.specs.declared.message.Opening.{Opening}
 use Rattle.control_message.specs.declared.message.Recovery.{Recovery}
 use Rattle.control_message.specs.Pairs.{pairs_of, IsWritten}
 use Rattle.recv_window.specs.Window.{on_wire}
 use Rattle.tunnel_fsm.specs.Rows.{state_number}
+use Rattle.session_query.specs.Queries.{Asking}
+use Rattle.wire_base.specs.declared.pair.Pair.{Pair}
 use Rattle.session_book.specs.declared.record.BookTunnel.{BookTunnel}
 use Rattle.session_book.specs.Books.{Kept, tunnel_at}
 use Rattle.end_names.specs.declared.role.Role.TheVariants.{Lac}
@@ -31,7 +33,7 @@ use Rattle.end_model.specs.declared.out.Origin.{Origin}
 use Rattle.end_model.specs.declared.out.Origin.TheVariants as origin
 use Rattle.end_model.specs.declared.out.ControlOrigin.{ControlOrigin}
 use Rattle.end_model.specs.declared.tunnel.Call.{Call}
-use Rattle.end_model.specs.Tunnels.{Tunnel, Recovering, ByAttempt, ByAnswer, mode_of, is_current}
+use Rattle.end_model.specs.Tunnels.{Tunnel, no_query, Recovering, ByAttempt, ByAnswer, mode_of, is_current}
 use Rattle.end_model.specs.End.{End}
 use Rattle.world_model.specs.declared.packet.Packet.{Packet}
 use Rattle.world_model.specs.declared.standing.Standing.{Standing}
@@ -52,6 +54,25 @@ IsMade a = a.part ≡ Unmade → ⊥
 -- the account of the other end of a tunnel that has learned its id, in the same epoch
 abbrev pub partner_in : Accounts → ℕ → Account → Account
 partner_in accs e a = accs a.peer a.remote e
+
+-- ---- letters
+
+-- a message that asks for sessions, or answers
+abbrev pub IsOfQuery : Message → Type 0
+IsOfQuery (Fsq sessions) = Unit {0}
+IsOfQuery (Fsr sessions) = Unit {0}
+IsOfQuery m = ⊥
+
+-- a letter that does, as the codec writes it
+pub record IsSpelledQuery (l : Letter) : Type 0 where
+  pub query : IsOfQuery l.message
+  pub written : IsWritten l.message
+  pub plain : l.hidden ≡ None
+  pub session : l.session ≡ 0
+
+-- in epoch 0 letters are spelled as where nothing is recovered; in a later one sessions are asked for too
+abbrev pub IsSpelledIn : ℕ → Letter → Type 0
+IsSpelledIn e l = IsSpelled l ⊎ ((0 < e) × IsSpelledQuery l)
 
 -- ---- what was taken
 
@@ -249,7 +270,7 @@ pub record AccountOk (w : World) (h : History) (n i e : ℕ) (a : Account) : Typ
   pub first_given : a.first_given < 65536
   pub first_taken : a.first_taken < 65536
   pub from_none : e ≡ 0 → (a.first_given ≡ 0) × (a.first_taken ≡ 0)
-  pub spelled : AllByRecursion IsSpelled a.given
+  pub spelled : AllByRecursion (IsSpelledIn e) a.given
   pub told : AllByRecursion (λ (l : Letter). TellsOwn i l.message) a.given
   pub taken : AreTaken h.accounts e a
   pub ignored : AreIgnored a
@@ -325,6 +346,11 @@ IsRecovered w h n i (ByAnswer a) =
     × (a.suggested ≡ record { ns = f.expect; nr = f.send_from })
     × ((is_some a.connection.reset ≡ true) → makes w n a.connection.local ≤ epoch_of w n i) × (f.draw ≡ a.connection.draw)
 
+-- what a tunnel asks its other end for, in some epoch: nothing before it was reset; and sessions whose ids have 16 bits at both ends
+pub record QueryOk (e : ℕ) (q : Asking) : Type 0 where
+  pub none : e ≡ 0 → q ≡ no_query
+  pub fit : AllByRecursion (λ (p : Pair). (p.sender < 65536) × (p.receiver < 65536)) q.pairs
+
 -- a live tunnel
 pub record LiveOk (w : World) (h : History) (n i : ℕ) (t : Tunnel) : Type 0 where
   pub local : t.control.local ≡ i
@@ -343,6 +369,8 @@ pub record LiveOk (w : World) (h : History) (n i : ℕ) (t : Tunnel) : Type 0 wh
   pub unattempted : state_number t.control.state < 3 → (a : ℕ) (m : Restored) → h.attempts n a ≡ Some m → m.tunnel.local ≡ i → ⊥
   -- ids of calls that the other end gave
   pub calls : (s : ℕ) (c : Call) → at t.calls s ≡ Some c → c.remote < 65536
+  -- what it asks for, and is to ask for
+  pub query : QueryOk (epoch_of w n i) t.query
 
 -- ---- nodes
 

@@ -130,11 +130,13 @@ IsOfARecovery m = ⊥
 abbrev pub RecoveriesKeep : Type 0
 RecoveriesKeep = (m : Move) → IsOfARecovery m → Keeps m
 
--- moves by which an established tunnel is given a letter, and takes none: a call is asked for, or the end of one is told, or the tunnel says that it is there
+-- moves by which an established tunnel is given a letter, and takes none: a call is asked for, or the end of one is told, or the tunnel
+-- says that it is there, or asks which sessions its other end still has
 abbrev pub IsGiving : Move → Type 0
 IsGiving (move.Requested m) = Unit {0}
 IsGiving (move.EndTold m) = Unit {0}
 IsGiving (move.Greeted m) = Unit {0}
+IsGiving (move.Queried m) = Unit {0}
 IsGiving m = ⊥
 
 abbrev pub GivingMovesKeep : Type 0
@@ -150,7 +152,8 @@ IsOpening m = ⊥
 abbrev pub OpeningMovesKeep : Type 0
 OpeningMovesKeep = (m : Move) → IsOpening m → Keeps m
 
--- moves by which a tunnel takes a letter of the other end that it knows, or hears what that acknowledges, or is closed; and by which a call rings in it
+-- moves by which a tunnel takes a letter of the other end that it knows, also one that asks which sessions are still there, or answers
+-- that; or hears what is acknowledged, or is closed; and by which a call rings in it
 abbrev pub IsTaking : Move → Type 0
 IsTaking (move.Added m) = Unit {0}
 IsTaking (move.Replied m) = Unit {0}
@@ -159,6 +162,8 @@ IsTaking (move.FirstUp m) = Unit {0}
 IsTaking (move.SecondUp m) = Unit {0}
 IsTaking (move.EndHeard m) = Unit {0}
 IsTaking (move.TookPlain m) = Unit {0}
+IsTaking (move.AnsweredQuery m) = Unit {0}
+IsTaking (move.TookAnswer m) = Unit {0}
 IsTaking (move.NrRead m) = Unit {0}
 IsTaking (move.Closed m) = Unit {0}
 IsTaking (move.ClosedBy m) = Unit {0}

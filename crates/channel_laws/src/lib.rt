@@ -73,8 +73,8 @@ pub fn recoveries_keep()
     laws_below();
 }
 
-/// A move of a step keeps what holds where an established tunnel is given a letter and takes none: it asks for a call, tells of the end of one, or says
-/// that it is there.
+/// A move of a step keeps what holds where an established tunnel is given a letter and takes none: it asks for a call, tells of the end
+/// of one, says that it is there, or asks, behind a reset, which sessions its other end still has.
 pub fn giving_moves_keep()
     ensures { GivingMovesKeep }
 {
@@ -89,8 +89,9 @@ pub fn opening_moves_keep()
     laws_below();
 }
 
-/// A move of a step keeps what holds where a live tunnel, in whatever epoch, takes a letter of its other end, hears what that acknowledges, is closed, or
-/// has a call that rings.
+/// A move of a step keeps what holds where a live tunnel, in whatever epoch, takes a letter of its other end, hears what that
+/// acknowledges, is closed, or has a call that rings. So it is where it answers which sessions it still has, and where it is answered, and
+/// calls end by that.
 pub fn taking_moves_keep()
     ensures { TakingMovesKeep }
 {

@@ -2,12 +2,12 @@ use crate::judging::{bytes_of, none_is_wrong};
 use end_model::{
     Accepted, Closed, ClosedBy, Confirmed, Connected, Declined, EndHeard, EndSilent, EndTold,
     FirstUp, Forgot, Froze, Move, NrRead, Out, Place, Refused, Rejected, ResetAnswering,
-    ResetAttempting, Restored, SecondUp,
+    ResetAttempting, Restored, SecondUp, TookAnswer,
 };
 use node_notes::push_notes;
 use session_book::{BookCall, BookTunnel};
 use std::alloc::Global;
-use wire_base::{Cause, NoMemory, Sequence, Why};
+use wire_base::{Cause, NoMemory, Pairs, Sequence, Why};
 
 // The lines were written by hand, by the table of forms in docs/notes.md.
 
@@ -258,6 +258,24 @@ fn reset_answering(tunnel: u16) -> Move {
     })
 }
 
+fn took_answer(alloc: Global, tunnel: u16, ended: &[u32]) -> Result<Move, NoMemory> {
+    Ok(Move::TookAnswer(TookAnswer {
+        tunnel,
+        pairs: Pairs::new(alloc),
+        answers: Pairs::new(alloc),
+        ended: Sequence::from_slice(alloc, ended)?,
+        taken: TAKEN,
+    }))
+}
+
+/// Whether an answer by which these calls end has these lines.
+fn answer_row(alloc: Global, tunnel: u16, ended: &[u32], lines: &[u8]) -> bool {
+    match took_answer(alloc, tunnel, ended) {
+        Ok(step) => row(alloc, step, lines),
+        Err(_) => false,
+    }
+}
+
 fn because(cause: Cause) -> Out {
     Out::Cause { cause }
 }
@@ -339,13 +357,21 @@ fn row_at(alloc: Global, at: u8) -> bool {
         25 => row(alloc, Move::RecoveryWentOn { tunnel: 21 }, b""),
         26 => row(alloc, Move::RecoveryEnded { tunnel: 22 }, b""),
         27 => row(alloc, Move::Ignored { tunnel: 23 }, b""),
+        28 => answer_row(alloc, 26, &[], b""),
+        29 => answer_row(
+            alloc,
+            27,
+            &[28, 65536],
+            b"call 28 gone tunnel 27 not at peer\n\
+            call 65536 gone tunnel 27 not at peer\n",
+        ),
         _ => false,
     }
 }
 
 /// The first of the rows whose move has other lines.
 fn first_wrong(alloc: Global) -> Option<u64> {
-    for at in 0..28u8 {
+    for at in 0..30u8 {
         if !row_at(alloc, at) {
             return Some(u64::from(at));
         }

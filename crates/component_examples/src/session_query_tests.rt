@@ -79,7 +79,9 @@ fn is_taken(alloc: Global, query: &mut Query, step: &Step) -> bool {
 
 /// The steps are taken by a query of so many sessions.
 fn are_taken(alloc: Global, count: u16, steps: &[Step]) -> bool {
-    let mut query = Query::start(sessions(alloc, count));
+    let Ok(mut query) = Query::start(sessions(alloc, count)) else {
+        return false;
+    };
     for step in steps {
         if !is_taken(alloc, &mut query, step) {
             return false;

@@ -228,6 +228,7 @@ module _ (codecs : Codecs) (accs : Accounts) (n : ℕ) (e x : End) (sender : Opt
         calls = λ s k g. absurd (none-some k (sym (at-none s) ∙ g));
         order = ascends-empty [] refl;
         recovery = refl;
+        query = refl;
       }
 
   near : IsNear b u o

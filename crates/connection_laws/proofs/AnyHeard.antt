@@ -2,7 +2,7 @@
 use Rattle.std.proofs.Common.{◌≡◌, ⊎_elim, ℕ, [], refl, sym, ap, ◌∙◌, subst, Option, Some, None}
 use Rattle.std.specs.Prelude.{length, slice_get}
 use Rattle.control_message.specs.declared.message.Message.{Message}
-use Rattle.control_message.specs.declared.message.Message.TheVariants.{Sccrq, Sccrp}
+use Rattle.control_message.specs.declared.message.Message.TheVariants.{Sccrq, Sccrp, Fsq}
 use Rattle.control_message.specs.Reading.{message_by, kind_by}
 use Rattle.end_model.specs.declared.event.Event.{Event}
 use Rattle.end_model.specs.declared.out.ControlOrigin.{ControlOrigin}
@@ -16,7 +16,7 @@ use Rattle.frame_laws.specs.Codecs.{Codecs}
 use Rattle.frame_laws.specs.Written.{IsWritten, IsWrittenOpening}
 use Rattle.connection_laws.specs.Accounts.{Account}
 use Rattle.connection_laws.specs.Facts.{Accounts, IsNoOpening, IsNoStop, AccountOk, Within}
-use Rattle.connection_laws.specs.Steps.{LettersAreHeard, OpeningsAreAcceptable, FaultsAreOfRequests, NoneIsFaultyInTunnel}
+use Rattle.connection_laws.specs.Steps.{LettersAreHeard, OpeningsAreAcceptable, FaultsAreOfRequests, NoneIsFaultyInTunnel, NoneAsksForSessions}
 use Rattle.connection_laws.proofs.Hearing.{sender_in, Sends, Chosen, Asks, Leaves, Linked, FromOpener, FromAcceptor, opener_of, no_message, PeerSays, letter_said, peer_says, heard_to, said_in, heard_said}
 use Rattle.connection_laws.proofs.NextHeard.{first_is}
 use Rattle.connection_laws.proofs.Said.{Learned, opener_goes, plain_no_stop}
@@ -85,6 +85,10 @@ openings_are_acceptable codecs accs n e sender ev within peer session o which =
     (λ (k : Hears ev peer session (Sccrp o)). hears_written codecs accs n e sender ev within peer session (Sccrp o) k)
     which in
     (w.version, w.recovery)
+
+pub none_asks_for_sessions : Codecs → NoneAsksForSessions
+none_asks_for_sessions codecs accs n e sender ev within peer session pairs k = hears_written codecs accs n e sender ev within peer session
+    (Fsq pairs) k
 
 -- ---- faults
 

@@ -138,6 +138,7 @@ module _ (accs : Accounts) (n : ℕ) (e : End) (sender : Option Sender) (moment 
     calls = λ s c f. absurd (none-some c (sym (at-none s) ∙ f));
     order = ascends-empty [] refl;
     recovery = refl;
+    query = refl;
   }
 
   near_at : (p : Packet) (bytes : List ℕ) (o : Origin) → NearAt ms n i new p bytes o

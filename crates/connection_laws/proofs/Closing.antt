@@ -311,6 +311,7 @@ module _ (codecs : Codecs) (accs : Accounts) (n : ℕ) (e x : End) (sender : Opt
         calls = λ s k f. absurd (none-some k (sym (at-none s) ∙ f));
         order = ascends-empty [] refl;
         recovery = live.recovery;
+        query = live.query;
       }
 
   near_at : (w : Packet) (bytes : List ℕ) (o : Origin) → AreNear accs n e w bytes o → NearAt ms n i u w bytes o

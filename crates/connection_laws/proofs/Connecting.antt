@@ -339,6 +339,7 @@ module _ (codecs : Codecs) (classes : ClassIsTrue) (accs : Accounts) (n : ℕ) (
         calls = live.calls;
         order = live.order;
         recovery = live.recovery;
+        query = live.query;
       }
 
   near : IsNear b u o

@@ -14,7 +14,7 @@ use Rattle.control_message.specs.declared.message.Opening.{Opening}
 use Rattle.control_message.specs.declared.message.Read.{Read}
 use Rattle.control_message.specs.declared.message.Read.TheVariants.{Known, Ignored}
 use Rattle.control_message.specs.Pairs.{pairs_of}
-use Rattle.control_message.specs.Reading.{message_of, message_by, kind_by}
+use Rattle.control_message.specs.Reading.{message_by, kind_by}
 use Rattle.recv_window.specs.Window.{on_wire}
 use Rattle.end_model.specs.declared.event.Addressee.TheVariants.{Opens, Recovers, Stops, Answers, Nobody}
 use Rattle.end_model.specs.declared.event.Event.{Event}
@@ -23,7 +23,7 @@ use Rattle.end_model.specs.declared.moves.Move.TheVariants as move
 use Rattle.end_model.specs.declared.out.Origin.{Origin}
 use Rattle.end_names.specs.Names.{node_of}
 use Rattle.l2tp_header.specs.Reading.{body_of}
-use Rattle.end_model.specs.Reading.{message_in, pairs_read, message_read, at_zero, zero_pairs, zero_read}
+use Rattle.end_model.specs.Reading.{message_in, pairs_read, message_read, at_zero, zero_pairs, zero_read, message_said}
 use Rattle.end_model.specs.End.{End, decline_origin}
 use Rattle.world_model.specs.World.{Sender, Deed, packet_from}
 use Rattle.step_laws.specs.Moves.{WhyDeclined, AnOpening, ARecovery, AFaultyOpening, AnAnswer, Declines}
@@ -80,7 +80,7 @@ read_answers avps (Err x) m r said h = absurd cc
 
 pairs_answer : (x : Result (List Avp) AvpError) (m : Message) (r : ℕ) → pairs_read x ≡ Ok m → zero_pairs x ≡ Answers r → IsReply m
 unfolding pairs_read zero_pairs
-pairs_answer (Ok avps) m r said h = read_answers avps (message_of avps) m r said h
+pairs_answer (Ok avps) m r said h = read_answers avps (message_said avps) m r said h
 pairs_answer (Err x) m r said h = absurd cc
 
 answers_said : (body : List ℕ) (m : Message) (r : ℕ) → message_in body ≡ Ok m → at_zero body ≡ Answers r → IsReply m

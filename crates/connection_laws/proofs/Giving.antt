@@ -108,6 +108,7 @@ module _ (accs : Accounts) (n : ℕ) (e : End) (sender : Option Sender) (ev : Ev
         calls = h.remotes;
         order = h.order;
         recovery = refl;
+        query = refl;
         how = inl h.open_is;
       }
 
@@ -245,6 +246,7 @@ record Stays (t u : Tunnel) : Type 0 where
   calls : (s : ℕ) (c : Call) → at u.calls s ≡ Some c → c.remote < 65536
   order : Ascends u.calls
   recovery : u.recovery ≡ t.recovery
+  query : u.query ≡ t.query
   how : (state_number t.control.state ≡ 3)
       ⊎ ((AllWait t.calls → AllWait u.calls) × ((state_number t.control.state ≡ 1 → ⊥) → t.calls ≡ [] → u.calls ≡ []))
 
@@ -272,6 +274,7 @@ stays_keeps accs n e x sender ev within i t u there s put_is =
       calls = s.calls;
       order = s.order;
       recovery = s.recovery;
+      query = s.query;
       how = ⊎_elim (λ three. inl three) (λ k. inr (refl, k.0, k.1)) s.how;
     })
     (only_same accs n i)
@@ -329,6 +332,7 @@ calls_stay t calls out fits order how = record {
   calls = fits;
   order = order;
   recovery = refl;
+  query = refl;
   how = how;
 }
 
@@ -463,6 +467,7 @@ window_stays accs n i a t c live h = record {
   calls = live.calls;
   order = live.order;
   recovery = refl;
+  query = refl;
   how = inr ((λ wait. wait), (λ one none. none));
 }
 

@@ -51,6 +51,7 @@ pub record GoesOn (t u : Tunnel) (more : List Letter) : Type 0 where
   pub calls : (s : ℕ) (c : Call) → at u.calls s ≡ Some c → c.remote < 65536
   pub order : Ascends u.calls
   pub recovery : u.recovery ≡ t.recovery
+  pub query : u.query ≡ t.query
   -- one that isn't open is given nothing; its calls wait, or it has none
   pub how : (state_number t.control.state ≡ 3)
       ⊎ ((more ≡ []) × (AllWait t.calls → AllWait u.calls) × ((state_number t.control.state ≡ 1 → ⊥) → t.calls ≡ [] → u.calls ≡ []))
@@ -323,6 +324,7 @@ module _ (accs ms : Accounts) (n : ℕ) (e x : End) (sender : Option Sender) (ev
     calls = g.calls;
     order = g.order;
     recovery = g.recovery ∙ live.recovery;
+    query = g.query ∙ live.query;
   }
     where
       acked : ℕ

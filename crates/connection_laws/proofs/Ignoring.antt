@@ -57,6 +57,7 @@ pub record IgnoresOn (t u : Tunnel) : Type 0 where
   pub outstanding : u.control.channel.window.outstanding ≡ t.control.channel.window.outstanding
   pub taken : u.control.channel.inbox.taken ≡ t.control.channel.inbox.taken + 1
   pub recovery : u.recovery ≡ t.recovery
+  pub query : u.query ≡ t.query
 
 -- of whom the letter is: of the tunnel's partner, the next one of its list; of another tunnel or of none, where an opener has taken one
 -- letter at most; or of an opener that is lost, where its acceptor has taken one at most
@@ -385,6 +386,7 @@ module _ (accs ms : Accounts) (n : ℕ) (e x : End) (sender : Option Sender) (ev
         calls = λ s c f. absurd (no_call u.calls s c f k.goes.none);
         order = ascends-empty u.calls k.goes.none;
         recovery = k.goes.recovery ∙ live.recovery;
+        query = k.goes.query ∙ live.query;
       }
 
   near : IsNear b u k.due.o

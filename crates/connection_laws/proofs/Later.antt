@@ -317,6 +317,7 @@ module _ (accs ms : Accounts) (grown : AllExtend accs ms) (n i : ℕ) (some : 0 
     calls = h.calls;
     order = h.order;
     recovery = h.recovery;
+    query = h.query;
   }
 
 -- ---- packets

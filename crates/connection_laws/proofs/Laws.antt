@@ -8,7 +8,7 @@ use Rattle.connection_laws.specs.Channels.{HoldsInRuns, LettersOfRuns, AcksOfRun
 use Rattle.connection_laws.proofs.Moves.{moves_keep}
 use Rattle.connection_laws.proofs.Closing.{closings_are_known}
 use Rattle.connection_laws.proofs.Declining.{declines_are_of_openings}
-use Rattle.connection_laws.proofs.AnyHeard.{openings_are_acceptable}
+use Rattle.connection_laws.proofs.AnyHeard.{openings_are_acceptable, none_asks_for_sessions}
 use Rattle.connection_laws.proofs.Worlds.{Laws}
 use Rattle.connection_laws.proofs.Runs.{holds_in_runs, lines_go_on}
 use Rattle.connection_laws.specs.Steps.{LinesGoOn}
@@ -24,6 +24,7 @@ module _ (codecs : Codecs) (chains : StepsAreChains) (starts : StepsAreNoStarts)
     closings = closings_are_known codecs;
     declines = declines_are_of_openings codecs;
     acceptable = openings_are_acceptable codecs;
+    unasked = none_asks_for_sessions codecs;
     starts = starts;
   }
 

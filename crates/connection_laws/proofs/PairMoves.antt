@@ -82,6 +82,7 @@ module _ (accs : Accounts) (n i : ℕ) (t : Tunnel) (live : LiveOk accs n i (acc
     calls = are.remotes;
     order = are.order;
     recovery = refl;
+    query = refl;
   }
 
   -- it is given a letter too
@@ -103,6 +104,7 @@ module _ (accs : Accounts) (n i : ℕ) (t : Tunnel) (live : LiveOk accs n i (acc
         calls = are.remotes;
         order = are.order;
         recovery = refl;
+        query = refl;
       }
 
 calls_put : (calls : List (ℕ × Call)) (s : ℕ) (k : Call) → AreCalls calls → k.remote < 65536 → AreCalls (put calls s k)

@@ -229,6 +229,7 @@ module _ (codecs : Codecs) (classes : ClassIsTrue) (accs : Accounts) (n : ℕ) (
             outstanding = refl;
             taken = omega arith;
             recovery = refl;
+            query = refl;
           };
           shuts = inr (is_shut.1, refl);
           only = only_after accs d n mv tt h.deed.node_is h.deed.move_is tt;
@@ -276,6 +277,7 @@ module _ (codecs : Codecs) (classes : ClassIsTrue) (accs : Accounts) (n : ℕ) (
           outstanding = refl;
           taken = omega arith;
           recovery = refl;
+          query = refl;
         };
         shuts = inl (is_open, refl);
         only = only_after accs d n mv tt h.deed.node_is h.deed.move_is is_open;

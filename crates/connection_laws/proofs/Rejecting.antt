@@ -6,7 +6,7 @@ use Rattle.std.proofs.lemmas.List.{length-append, map-append, drop-append-le}
 use Rattle.std.specs.Prelude.{slice_get}
 use Rattle.id_table.specs.Ids.{at-none, at}
 use Rattle.wire_base.specs.declared.letter.Letter as wire
-use Rattle.control_message.specs.declared.message.Message.TheVariants.{Sccrq, StopCcn, Sccrp, Scccn}
+use Rattle.control_message.specs.declared.message.Message.TheVariants.{Sccrq, StopCcn, Sccrp, Scccn, Fsr}
 use Rattle.control_message.specs.declared.message.Opening.{Opening}
 use Rattle.recv_window.specs.Window.{ClassIsTrue}
 use Rattle.tunnel_fsm.specs.declared.table.TunnelState.TheVariants as state
@@ -18,7 +18,7 @@ use Rattle.end_model.specs.Channels.{counts_taken}
 use Rattle.end_model.specs.End.{End}
 use Rattle.world_model.specs.World.{Sender, Deed}
 use Rattle.step_laws.specs.Letters.{Letter}
-use Rattle.step_laws.specs.Moves.{LetterCloses, BySccrq, BySccrp, ByScccn, ByFault, with_letter}
+use Rattle.step_laws.specs.Moves.{LetterCloses, BySccrq, BySccrp, ByScccn, ByFault, with_letter, ByUnasked, heard_from}
 use Rattle.frame_laws.specs.Codecs.{Codecs}
 use Rattle.connection_laws.specs.Accounts.{Opener, Acceptor, Taken, Account}
 use Rattle.connection_laws.specs.Facts.{IsClosed, IsIgnored, Accounts, IsMade, TellsOwn, AreTaken, AreIgnored, IsLost, AreJoined, partner_in, IsPart, IsOpener, AccountOk, IsSpelled, kept_letter, IsAnswered, AreAcked, LiveOk, IsNear, Within}
@@ -41,7 +41,7 @@ use Rattle.step_laws.specs.Codes.{CodesFit, letter_codes_fit}
 use Rattle.connection_laws.proofs.Connecting.{IsFirst, first_if}
 use Rattle.connection_laws.proofs.Closing.{stop_behind}
 use Rattle.connection_laws.proofs.Plainly.{CameCopy, CameRefusal, came}
-use Rattle.connection_laws.proofs.AnyHeard.{none_is_faulty_in_tunnel}
+use Rattle.connection_laws.proofs.AnyHeard.{none_is_faulty_in_tunnel, hears_written}
 use Rattle.connection_laws.proofs.Alike.{IsNoRequest, read_same}
 
 module _ (codecs : Codecs) (classes : ClassIsTrue) (accs : Accounts) (n : ℕ) (e x : End) (sender : Option Sender) (moment : ℕ) (ev : Event) (d : Deed)
@@ -101,7 +101,7 @@ module _ (codecs : Codecs) (classes : ClassIsTrue) (accs : Accounts) (n : ℕ) (
   says_so : (q : Message) × IsOpeningLetter q × (message_in (body_of bytes header) ≡ Ok q)
   says_so = by h.does.why
     where
-      by : LetterCloses e.config.secret t.control h.does.letter h.does.on m.remote m.result m.error
+      by : LetterCloses e.config.secret t.control t.query h.does.letter h.does.on m.remote m.result m.error
           → (q : Message) × IsOpeningLetter q × (message_in (body_of bytes header) ≡ Ok q)
       by (BySccrq opening said on none why) = (Sccrq opening, inr (inl (opening, refl)), there (Sccrq opening) said)
       by (BySccrp opening said on tells why) = (Sccrp opening, inl (opening, refl, tells), there (Sccrp opening) said)
@@ -109,6 +109,9 @@ module _ (codecs : Codecs) (classes : ClassIsTrue) (accs : Accounts) (n : ℕ) (
       by (ByFault g has on tells result error) =
           let next = h.does.takes.next in
           absurd (none_is_faulty_in_tunnel codecs accs n e sender ev h.within h.does.letter g next.comes.came next.some has)
+      by (ByUnasked answers place said differs on none result error) =
+          absurd (hears_written codecs accs n e sender ev h.within t.control.peer h.does.letter.header.session (Fsr answers)
+          (heard_from ev t h.does.letter (Fsr answers) h.does.takes.next said))
 
   -- so it is no StopCCN of no tunnel
   no_refusal : CameRefusal accs n e sender ev h.within.comes i t header bytes → ⊥
@@ -287,7 +290,7 @@ module _ (codecs : Codecs) (classes : ClassIsTrue) (accs : Accounts) (n : ℕ) (
       (got_push a.taken tk number y got)
 
   codes : CodesFit m.result m.error
-  codes = letter_codes_fit e.config.secret t.control h.does.letter h.does.on m.remote m.result m.error h.does.why
+  codes = letter_codes_fit e.config.secret t.control t.query h.does.letter h.does.on m.remote m.result m.error h.does.why
 
   account : AccountOk ms n i b
   account = record {
@@ -339,6 +342,7 @@ module _ (codecs : Codecs) (classes : ClassIsTrue) (accs : Accounts) (n : ℕ) (
         calls = λ s k f. absurd (none-some k (sym (at-none s) ∙ f));
         order = ascends-empty [] refl;
         recovery = live.recovery;
+        query = live.query;
       }
 
   near : IsNear b u o

@@ -172,6 +172,7 @@ live_now ms n i a now t keeps h = record {
   calls = h.calls;
   order = h.order;
   recovery = h.recovery;
+  query = h.query;
 }
   where
     state : (q : Part) → IsInState ms i a t q → IsInState ms i (record a { declined = now }) t q

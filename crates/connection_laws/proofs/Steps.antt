@@ -25,7 +25,7 @@ use Rattle.frame_laws.proofs.Chains.{does_role}
 use Rattle.connection_laws.specs.Accounts.{Account, no_account, about, after_deed, account_from}
 use Rattle.connection_laws.specs.Facts.{Accounts, IsOpen, Within}
 use Rattle.connection_laws.proofs.Keeps.{after, IsMoved, MovesKeep}
-use Rattle.connection_laws.specs.Steps.{MovesWithin, ClosingsAreKnown, DeclinesAreOfOpenings, OpeningsAreAcceptable}
+use Rattle.connection_laws.specs.Steps.{MovesWithin, ClosingsAreKnown, DeclinesAreOfOpenings, OpeningsAreAcceptable, NoneAsksForSessions}
 use Rattle.connection_laws.proofs.Later.{extends_same, extends_on, AllExtend, all_extend, DeclinesNone, MayEnter, only_after, after_there}
 use Rattle.connection_laws.proofs.Staying.{Stays, stays_same, stays_on, all_stay_extend, given_stays, IsDeclining, declines_or_not, opening_stays, WasOpening, was_opening, opening_later}
 use Rattle.connection_laws.proofs.States.{not_closed, is_open_so, is_waiting, closes_open}
@@ -142,6 +142,7 @@ abbrev pub deeds : World → ℕ → ℕ → Role → Option Sender → List Mov
 deeds v line n r sender ms = map (λ m. deed_of v line n r sender m) ms
 
 module _ (moves_keep : MovesKeep) (closings : ClosingsAreKnown) (declines : DeclinesAreOfOpenings) (acceptable : OpeningsAreAcceptable)
+    (unasked : NoneAsksForSessions)
     (v : World) (line n : ℕ) (r : Role) (sender : Option Sender) (moment : ℕ) (ev : Event) where
   move_leaves : (accs : Accounts) (e y : End) (m : Move) → IsMain m → (d : Deed) (top most : ℕ) → d.node ≡ n → d.move ≡ m → Within accs n e sender ev
       → Does e moment ev m y → Within (after accs d) n y sender ev → AckedBelow y top → top + 8192 ≤ most → GivenBelow accs most
@@ -171,9 +172,12 @@ module _ (moves_keep : MovesKeep) (closings : ClosingsAreKnown) (declines : Decl
   -- a move that is made where all of it holds isn't one of a recovery
   main_within : (accs : Accounts) (e y : End) (m : Move) → Within accs n e sender ev → IsOfNoStart m → Does e moment ev m y → IsMain m
   main_within accs e y m within start does =
-      is_main e (λ i t there. (within.end.live i t there).recovery) moment ev
-      (λ k came o said. (acceptable accs n e sender ev within k.peer k.header.session o
-      (inl (record { letter = k; came = came; peer_is = refl; says = record { session_is = refl; said = said } }))).1) m start y does
+      is_main e (λ i t there. let live = within.end.live i t there in (live.recovery, live.query)) moment ev (
+        (λ k came o said. (acceptable accs n e sender ev within k.peer k.header.session o
+            (inl (record { letter = k; came = came; peer_is = refl; says = record { session_is = refl; said = said } }))).1),
+        (λ k came pairs said. unasked accs n e sender ev within k.peer k.header.session pairs
+            (record { letter = k; came = came; peer_is = refl; says = record { session_is = refl; said = said } })),
+      ) m start y does
 
   pub chain_keeps : (ms : List Move) (accs : Accounts) (e x : End) (top most : ℕ) → AllByRecursion IsOfNoStart ms → Chain moment ev e ms x
       → e.role ≡ r → Within accs n e sender ev → AckedBelow e top → GivenBelow accs most → top + 8192 * length (reads_in ms) + 8192 ≤ most → most + 3 < 2 ^ 64

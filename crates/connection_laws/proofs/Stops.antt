@@ -11,9 +11,9 @@ use Rattle.control_message.specs.declared.message.Message.TheVariants.{Sccrq, Sc
 use Rattle.control_message.specs.declared.message.MessageError.{MessageError}
 use Rattle.control_message.specs.declared.message.Read.{Read}
 use Rattle.control_message.specs.declared.message.Read.TheVariants.{Known, Ignored}
-use Rattle.control_message.specs.Reading.{message_of, message_by, kind_by}
+use Rattle.control_message.specs.Reading.{message_by, kind_by}
 use Rattle.end_model.specs.declared.event.Addressee.TheVariants.{Opens, Recovers, Stops, Nobody}
-use Rattle.end_model.specs.Reading.{message_in, pairs_read, message_read, stopped, at_zero, zero_pairs, zero_read}
+use Rattle.end_model.specs.Reading.{message_in, pairs_read, message_read, stopped, at_zero, zero_pairs, zero_read, message_said}
 use Rattle.frame_laws.specs.Codecs.{Codecs}
 
 -- it is one that tells this id, which is none that is 0
@@ -63,7 +63,7 @@ read_tells avps (Err x) m r said h = absurd cc
 
 pairs_tell : (x : Result (List Avp) AvpError) (m : Message) (r : ℕ) → pairs_read x ≡ Ok m → zero_pairs x ≡ Stops r → TellsStop m r
 unfolding pairs_read zero_pairs
-pairs_tell (Ok avps) m r said h = read_tells avps (message_of avps) m r said h
+pairs_tell (Ok avps) m r said h = read_tells avps (message_said avps) m r said h
 pairs_tell (Err x) m r said h = absurd cc
 
 -- where it can be read

@@ -94,6 +94,7 @@ pub record TakesOn (t u : Tunnel) (more : List Letter) : Type 0 where
   pub calls : (s : ℕ) (c : Call) → at u.calls s ≡ Some c → c.remote < 65536
   pub order : Ascends u.calls
   pub recovery : u.recovery ≡ t.recovery
+  pub query : u.query ≡ t.query
 
 -- an opener that has learned no partner waits for an SCCRP, and takes nothing else; and an open tunnel takes no StopCCN
 pub paired_if : (accs : Accounts) (n i : ℕ) (o : ControlOrigin) (t : Tunnel) (l : Letter) → LiveOk accs n i (accs n i) t
@@ -386,6 +387,7 @@ module _ (accs ms : Accounts) (n : ℕ) (e x : End) (sender : Option Sender) (ev
         calls = k.goes.calls;
         order = k.goes.order;
         recovery = k.goes.recovery ∙ live.recovery;
+        query = k.goes.query ∙ live.query;
       }
 
   near : IsNear b u k.heard.o

@@ -35,7 +35,7 @@ use Rattle.connection_laws.proofs.Puts.{Extends}
 use Rattle.connection_laws.proofs.Later.{AllExtend, packet_later}
 use Rattle.connection_laws.proofs.Budget.{GivenBelow, acked_given}
 use Rattle.connection_laws.proofs.Steps.{reads_in, afterwards, from-append, deeds, Kept, chain_keeps, Ran}
-use Rattle.connection_laws.specs.Steps.{ClosingsAreKnown, DeclinesAreOfOpenings, OpeningsAreAcceptable}
+use Rattle.connection_laws.specs.Steps.{ClosingsAreKnown, DeclinesAreOfOpenings, OpeningsAreAcceptable, NoneAsksForSessions}
 pub use Rattle.connection_laws.specs.Steps.{end_at, BirthsStay, LineSteps}
 use Rattle.connection_laws.proofs.Sent.{carries_ok}
 use Rattle.connection_laws.proofs.Staying.{Stays, end_stays, unknown_stays}
@@ -286,6 +286,7 @@ pub record Laws : Type 0 where
   pub closings : ClosingsAreKnown
   pub declines : DeclinesAreOfOpenings
   pub acceptable : OpeningsAreAcceptable
+  pub unasked : NoneAsksForSessions
   pub starts : StepsAreNoStarts
 
 module _ (laws : Laws) (number : ℕ) (w : World) (accs : Accounts) (holds : Holds w accs) (most : ℕ) (had : GivenBelow accs most)
@@ -337,7 +338,8 @@ module _ (laws : Laws) (number : ℕ) (w : World) (accs : Accounts) (holds : Hol
   first_ran : (made : List Move) (y : End) → AllByRecursion IsOfNoStart made → Chain moment ev old.end made y → length (reads_in made) ≤ 1
       → Ran accs (afterwards accs (did made)) n old.end y sender moment ev (λ m. deed_of v number n old.end.role sender m) made (acked_by made) (most + 16384)
   first_ran made y starts leads reads =
-      chain_keeps laws.moves laws.closings laws.declines laws.acceptable v number n old.end.role sender moment ev made accs old.end y most (most + 16384)
+      chain_keeps laws.moves laws.closings laws.declines laws.acceptable laws.unasked
+      v number n old.end.role sender moment ev made accs old.end y most (most + 16384)
       starts leads refl begun
       (acked_given accs n old.end most ok.0 had) (λ k j. (let le = had k j in omega arith)) (omega (arith, reads)) (omega (arith, room))
 
@@ -365,7 +367,8 @@ module _ (laws : Laws) (number : ℕ) (w : World) (accs : Accounts) (holds : Hol
     rest_ran : Ran so_far (afterwards so_far (did amid.rest)) n amid.end s.end sender moment ev (λ m. deed_of v number n old.end.role sender m) amid.rest
         (acked_by amid.made + 8192 * length (reads_in amid.rest)) (most + 16384)
     rest_ran =
-        chain_keeps laws.moves laws.closings laws.declines laws.acceptable v number n old.end.role sender moment ev amid.rest so_far amid.end s.end
+        chain_keeps laws.moves laws.closings laws.declines laws.acceptable laws.unasked
+        v number n old.end.role sender moment ev amid.rest so_far amid.end s.end
         (acked_by amid.made) (most + 16384) (all_behind IsOfNoStart amid.made amid.rest started) amid.goes
         (same_role moment ev old.end amid.end amid.made amid.comes) made_ran.kept.within
         made_ran.kept.below made_ran.kept.given (omega (arith, reads_add, one_read)) (omega (arith, room))

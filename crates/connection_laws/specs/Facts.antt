@@ -28,7 +28,7 @@ use Rattle.end_names.specs.declared.role.Role.TheVariants.{Lac}
 use Rattle.call_fsm.specs.declared.table.CallState.TheVariants.{WaitTunnel}
 use Rattle.end_names.specs.Names.{address_of}
 use Rattle.end_model.specs.Secrets.{uncovered_datagram}
-use Rattle.end_model.specs.Tunnels.{Tunnel}
+use Rattle.end_model.specs.Tunnels.{Tunnel, no_query}
 use Rattle.end_model.specs.Channels.{letter_as}
 use Rattle.end_model.specs.End.{End}
 use Rattle.world_model.specs.World.{World, Node, Sender, standing_of, no_standing, sender_of}
@@ -120,8 +120,8 @@ pub record BeginsWith (i : ℕ) (says : Opening → Message) (given : List Lette
 
 -- what a tunnel did with a letter that it took is what the letter says: it learned the id and the window that an opening tells, or was
 -- confirmed by an SCCCN; the call that it made replies to the one that the request names; a call came up by the reply or the connection
--- whose header names it; or a call ended by a CDN whose header names it, or names none: then which call the CDN means isn't said here.
--- Of a letter that it took plainly nothing is said
+-- whose header names it; or a call ended by a CDN whose header names it, or names none: then which call the CDN means isn't said here; or
+-- it answered the question for sessions that the letter is, or took the answer. Of a letter that it took plainly nothing is said
 abbrev pub Tells : Letter → Move → Type 0
 Tells l (move.Accepted m) = (o : Opening) × (l.message ≡ Sccrq o) × (m.remote ≡ o.tunnel) × (m.window ≡ o.window)
 Tells l (move.Connected m) = (o : Opening) × (l.message ≡ Sccrp o) × (m.remote ≡ o.tunnel) × (m.window ≡ o.window)
@@ -133,6 +133,8 @@ Tells l (move.Refused m) =
     ((serial : ℕ) × (calling : Option (List ℕ)) × (l.message ≡ Icrq m.remote serial calling)) ⊎ (l.message ≡ Icrp m.remote)
 Tells l (move.EndHeard m) =
     ((l.session ≡ m.session) ⊎ (l.session ≡ 0)) × ((remote : ℕ) × (code : ℕ) × (error : Option ℕ) × (l.message ≡ Cdn remote code error))
+Tells l (move.AnsweredQuery m) = l.message ≡ Fsq m.pairs
+Tells l (move.TookAnswer m) = l.message ≡ Fsr m.answers
 Tells l m = Unit {0}
 
 -- what a tunnel took as the letter with a number is the letter with that number, of those given to its partner's channel
@@ -319,8 +321,9 @@ pub record LiveOk (accs : Accounts) (n i : ℕ) (a : Account) (t : Tunnel) : Typ
   pub calls : (s : ℕ) (c : Call) → at t.calls s ≡ Some c → c.remote < 65536
   -- no session stands twice
   pub order : Ascends t.calls
-  -- nobody recovers it
+  -- nobody recovers it, and it asks for no session
   pub recovery : t.recovery ≡ None
+  pub query : t.query ≡ no_query
 
 -- ---- ends
 

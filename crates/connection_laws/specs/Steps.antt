@@ -2,7 +2,7 @@
 use Rattle.std.specs.Prelude.{◌≡◌, ◌⊎◌, ℕ, ◌+◌, ◌^◌, ◌<◌, ◌≤◌, Bool, true, false, List, [], ◌∷◌, map, length, slice_get, Option, Some, None, option_map, Ok}
 use Rattle.id_table.specs.Ids.{at, put}
 use Rattle.control_message.specs.declared.message.Message.{Message}
-use Rattle.control_message.specs.declared.message.Message.TheVariants.{Sccrq, Sccrp}
+use Rattle.control_message.specs.declared.message.Message.TheVariants.{Sccrq, Sccrp, Fsq}
 use Rattle.control_message.specs.declared.message.Opening.{Opening}
 use Rattle.schedule_text.specs.declared.line.Line.{Line}
 use Rattle.schedule_text.specs.Grammar.{FitsLine}
@@ -28,6 +28,7 @@ use Rattle.frame_laws.specs.Plain.{AreAlike, IsReadAs, number_fault}
 use Rattle.frame_laws.specs.Unrecovered.{IsMain}
 use Rattle.connection_laws.specs.Accounts.{Opener, account_of, after_deed}
 use Rattle.connection_laws.specs.Facts.{Accounts, IsNoOpening, IsNoStop, IsStopCcn, Within, Holds}
+use Rattle.wire_base.specs.declared.pair.Pair.{Pair}
 
 -- ---- a move of a step
 
@@ -145,6 +146,11 @@ abbrev pub OpeningsAreAcceptable : Type 0
 OpeningsAreAcceptable = (accs : Accounts) (n : ℕ) (e : End) (sender : Option Sender) (ev : Event) → Within accs n e sender ev
     → (peer session : ℕ) (o : Opening) → (Hears ev peer session (Sccrq o)) ⊎ (Hears ev peer session (Sccrp o))
     → (o.version ≡ 256) × (o.recovery ≡ None)
+
+-- none that is heard asks for sessions
+abbrev pub NoneAsksForSessions : Type 0
+NoneAsksForSessions = (accs : Accounts) (n : ℕ) (e : End) (sender : Option Sender) (ev : Event) → Within accs n e sender ev
+    → (peer session : ℕ) (pairs : List Pair) → Hears ev peer session (Fsq pairs) → ⊥
 
 -- a control message that comes in a live tunnel, the next one or not, and opens, accepts or closes none
 pub record HeardLetter (accs : Accounts) (n i : ℕ) (sender : Option Sender) (session : ℕ) (m : Message) : Type 0 where

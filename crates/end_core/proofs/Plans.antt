@@ -232,7 +232,7 @@ one_made : (x : End) (start : Env) (i : ℕ) (t : Tunnel) (r : RecoveryTurn) (p 
     → (after_both x i t r).end ≡ left x start (after_plan x.tunnels p (at x.tunnels p.0)) (with_looks r.turn.changes x.calls)
 unfolding after_turn placed
 one_made x start i t r p id plan there added ids =
-    rw (id, there, ids, added, plan.control, plan.acked, plan.given, plan.cleared, plan.changed, plan.recovery) refl
+    rw (id, there, ids, added, plan.control, plan.query, plan.acked, plan.given, plan.cleared, plan.changed, plan.recovery) refl
 
 -- the tunnels of these plans are as before
 abbrev Untouched : End → End → List (ℕ × Plan) → Type 0

@@ -14,7 +14,7 @@ use Rattle.end_model.specs.declared.tunnel.Call.{Call}
 use Rattle.end_model.specs.declared.tunnel.Config.{Config}
 use Rattle.end_model.specs.declared.tunnel.Mode.{Mode}
 use Rattle.end_model.specs.declared.tunnel.Mode.TheVariants.{Current}
-use Rattle.end_model.specs.Tunnels.{Tunnel, Turn, Env, Recovering, turn_of, turn_in, mode_of}
+use Rattle.end_model.specs.Tunnels.{Tunnel, Turn, Env, Recovering, Asking, no_query, turn_of, turn_in, mode_of}
 use Rattle.end_model.specs.Sending.{settles}
 use Rattle.end_model.specs.Reading.{message_in}
 use Rattle.end_model.specs.Hearing.{first_said, hears_control, hears_datagram}
@@ -49,5 +49,7 @@ unfolding recovering_turns
 alone_turn role c u ev t none = alone_by u.calls u.recovery (is_tick ev) (turns role c u.letters u.calls ev t) none
 
 -- in an environment as a step begins with, its mode is current
-pub same_turn : (u : Tunnel) (env : Env) → u.recovery ≡ None → env.on.mode ≡ Current → turn_in u env ≡ turn_of u.control env
-same_turn u env none current = ap (λ (m : Mode). turn_of u.control (record env { on = record env.on { mode = m } })) (ap (λ (o : Option Recovering). mode_of o) none ∙ sym current)
+pub same_turn : (u : Tunnel) (env : Env) → u.recovery ≡ None → u.query ≡ no_query → env.on.mode ≡ Current → turn_in u env ≡ turn_of u.control env
+same_turn u env none quiet current =
+    ap (λ (q : Asking). record (turn_of u.control (record env { on = record env.on { mode = mode_of u.recovery } })) { query = q }) quiet
+    ∙ ap (λ (m : Mode). turn_of u.control (record env { on = record env.on { mode = m } })) (ap (λ (o : Option Recovering). mode_of o) none ∙ sym current)

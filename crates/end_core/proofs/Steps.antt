@@ -58,7 +58,7 @@ module _ (v : End) (start : Env) (none : start.changes ≡ []) (i : ℕ) (t : Tu
 
   end_is : s.end ≡ (after_both v i t r).end
   unfolding after_turn
-  end_is = settled.end ∙ rw (ids_are, changes_are, plan.control, plan.acked, plan.given, plan.cleared, plan.changed, plan.added, plan.recovery) refl
+  end_is = settled.end ∙ rw (ids_are, changes_are, plan.control, plan.query, plan.acked, plan.given, plan.cleared, plan.changed, plan.added, plan.recovery) refl
 
   pub turn_is : behind_env start (after_both v i t r) ≡ s
   unfolding after_turn

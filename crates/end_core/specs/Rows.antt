@@ -1,7 +1,8 @@
 -- The tables of an end, for printing.
-use Rattle.std.specs.Prelude.{ℕ, ◌%◌, List, [], ◌∷◌, true, Option, Some, None}
+use Rattle.std.specs.Prelude.{ℕ, ◌%◌, List, [], ◌∷◌, Option, Some, None}
 use Rattle.std.specs.List.{flat_map}
 use Rattle.id_table.specs.Ids.{at, ids_of}
+use Rattle.session_query.specs.Queries.{is_complete}
 use Rattle.end_model.specs.declared.tunnel.Call.{Call}
 use Rattle.end_model.specs.Tunnels.{Tunnel, mode_of}
 use Rattle.end_model.specs.End.{End}
@@ -17,7 +18,7 @@ calls_at s (Some c) = record { local = s % 65536; remote = c.remote; state = c.s
 unfoldable pub call_rows : List (ℕ × Call) → List CallRow
 call_rows calls = flat_map (λ s. calls_at s (at calls s)) (ids_of calls)
 
--- No end asks for its calls after a reset, so each tunnel is complete.
+-- a tunnel is complete where it knows of each of its sessions whether the peer has it
 abbrev pub rows_at : Option Tunnel → List TunnelRow
 rows_at None = []
 rows_at (Some t) = record {
@@ -26,7 +27,7 @@ rows_at (Some t) = record {
   remote = t.control.remote;
   state = t.control.state;
   mode = mode_of t.recovery;
-  complete = true;
+  complete = is_complete t.query;
   calls = call_rows t.calls;
 } ∷ []
 

@@ -12,6 +12,7 @@ ghost use Rattle.end_model.specs.Turn.{with_turn};
 ghost use Rattle.end_model.specs.End.{tunnels_after, placed, with_looks};
 ghost use Rattle.tunnel_table.specs.Cores.{tunnel_of, made_of, beside, HasId, IsTurn, HasRoomFor};
 ghost use Rattle.tunnel_table.specs.Plans.{IsPlanned, IsGiven, HasPlace, after_plan};
+ghost use Rattle.end_model.specs.Tunnels.{no_query};
 ghost use Rattle.tunnel_table.specs.Tunnels.{tunnels_of};
 ghost use Rattle.step_ledger.specs.Committing.{Commits};
 ghost use Rattle.step_records.specs.Leaving.{leaves};
@@ -100,6 +101,7 @@ fn plan_opening(
     requires current { env.old.on.mode ≡ Current }
     requires idle { core.old.control.state ≡ Idle }
     requires alone { core.old.recovery ≡ None }
+    requires quiet { core.old.query ≡ no_query }
     requires said { IsSaidBy (option_copied said) event.now }
     ensures same { tunnel_of core.new ≡ tunnel_of core.old }
     ensures planned { IfOk result (λ p. IsTurn p None (beside None (first_turn role config.now event.now env.old (tunnel_of core.old)))) }
@@ -126,6 +128,7 @@ fn plan_step(
     requires current { env.old.on.mode ≡ Current }
     requires idle { core.old.control.state ≡ Idle }
     requires alone { core.old.recovery ≡ None }
+    requires quiet { core.old.query ≡ no_query }
     requires said { IsSaidBy (option_copied said) event.now }
     ensures same { tunnel_of core.new ≡ tunnel_of core.old }
     ensures places { places.new.entries ≡ places.old.entries }
@@ -182,6 +185,7 @@ pub(crate) fn plan_first<L: Ledger>(
     requires current { env.old.on.mode ≡ Current }
     requires idle { core.old.control.state ≡ Idle }
     requires alone { core.old.recovery ≡ None }
+    requires quiet { core.old.query ≡ no_query }
     requires said { IsSaidBy (option_copied said) event.now }
     ensures tunnels { tunnels.new.entries ≡ tunnels.old.entries }
     ensures places { places.new.entries ≡ places.old.entries }

@@ -38,8 +38,8 @@ pub struct TunnelRow {
     pub remote: u16,
     pub state: TunnelState,
     pub mode: Mode,
-    /// Whether the ends have told each other which calls they kept, behind a recovery: no end asks the other one for its calls, so that
-    /// there is nothing to tell.
+    /// Whether it is known of each session that was established at its last reset whether the peer has it: after a recovery each end asks
+    /// the other one for its sessions.
     pub complete: bool,
     pub calls: CallTable,
 }
@@ -76,7 +76,7 @@ fn tunnel_row(alloc: Global, core: &TunnelCore) -> Result<TunnelRow, NoMemory>
         remote: control.remote,
         state: control.state,
         mode: core.mode(),
-        complete: true,
+        complete: core.is_complete(),
         calls: call_rows(alloc, core.calls())?,
     })
 }

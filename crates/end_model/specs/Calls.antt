@@ -1,5 +1,5 @@
 -- Calls.
-use Rattle.std.specs.Prelude.{ℕ, ◌+◌, List, [], ◌∷◌, ◌++◌, replicate, Bool, true, false, ◌==◌, nat_le, nat_lt, length, ◌&&◌, ◌%◌, Option, Some, None}
+use Rattle.std.specs.Prelude.{ℕ, ◌+◌, List, [], ◌∷◌, ◌++◌, map, filter, replicate, Bool, true, false, ◌==◌, nat_le, nat_lt, length, ◌&&◌, ◌%◌, Option, Some, None}
 use Rattle.call_fsm.specs.declared.table.CallState.{CallState}
 use Rattle.call_fsm.specs.declared.table.CallState.TheVariants.{Idle}
 use Rattle.call_fsm.specs.declared.table.CallState.TheVariants as call
@@ -10,6 +10,7 @@ use Rattle.call_fsm.specs.declared.table.CallAction.TheVariants.{SendIcrq, SendI
 use Rattle.call_fsm.specs.Rows.{lac_rows, lns_rows, row_of, state_number}
 use Rattle.end_names.specs.declared.role.Role.{Role}
 use Rattle.end_names.specs.declared.role.Role.TheVariants.{Lac, Lns}
+use Rattle.wire_base.specs.declared.pair.Pair.{Pair}
 use Rattle.end_model.specs.declared.tunnel.Call.{Call}
 
 abbrev pub is_lac : Role → Bool
@@ -77,6 +78,21 @@ is_up s = state_number s == 4
 -- it is neither idle nor established
 abbrev pub is_set_up : CallState → Bool
 is_set_up s = nat_lt 0 (state_number s) && nat_lt (state_number s) 4
+
+-- ---- sessions
+
+-- a call as a session: by its own id, and the one that the peer assigned
+abbrev pub pair_of : ℕ × Call → Pair
+pair_of c = record { sender = c.0; receiver = c.1.remote }
+
+abbrev pub is_session : ℕ × Call → Bool
+is_session c = is_up c.1.state
+
+-- those that are established, by local ids
+unfoldable pub sessions_of : List (ℕ × Call) → List Pair
+sessions_of calls = map pair_of (filter is_session calls)
+
+-- ---- letters that are owed
 
 -- how many letters the tunnel may still have to give for a call: its request, its connection and its end
 abbrev pub owes : CallState → ℕ

@@ -45,6 +45,7 @@ records_of (move.Cleared i booked) = tunnel_down booked i
 records_of (move.Forgot m) = TunnelDown m.tunnel ∷ []
 records_of (move.Froze m) = mark_by m.marked m.tunnel m.asked
 records_of (move.ResetAttempting m) = mark_by m.marked m.tunnel m.draw
+records_of (move.TookAnswer m) = map (λ s. CallDown s) m.ended
 records_of m = []
 
 -- what a step leaves: the ceilings first, by space and then rising, and behind them what its moves leave, in their order

@@ -54,4 +54,9 @@ with_calls (c ∷ cs) calls = with_calls cs (changed_at calls c.0 c.1)
 
 abbrev pub tunnel_after : Turn → List Letter → List (ℕ × Call) → Option Recovering → Tunnel
 tunnel_after t letters calls recovery =
-    record (new_tunnel t.control) { letters = letters_after t letters; calls = with_calls t.changed calls; recovery = recovery }
+    record (new_tunnel t.control) {
+      letters = letters_after t letters;
+      calls = with_calls t.changed calls;
+      recovery = recovery;
+      query = t.query;
+    }

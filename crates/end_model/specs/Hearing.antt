@@ -5,6 +5,7 @@ use Rattle.wire_base.specs.declared.why.Why.{Why}
 use Rattle.wire_base.specs.declared.why.Why.TheVariants as why
 use Rattle.wire_base.specs.declared.cause.Cause.TheVariants as cause
 use Rattle.wire_base.specs.declared.letter.Letter.{Letter}
+use Rattle.wire_base.specs.declared.pair.Pair.{Pair}
 use Rattle.l2tp_header.specs.declared.header.Header.{Header}
 use Rattle.l2tp_header.specs.declared.header.HeaderError.{HeaderError}
 use Rattle.control_message.specs.declared.message.Message.{Message}
@@ -28,7 +29,7 @@ use Rattle.end_model.specs.Tunnels.{Turn, is_current}
 use Rattle.end_model.specs.Channels.{has_room, may_take}
 use Rattle.end_model.specs.Messages.{Told, tells_id, told_by, event_by, opening_reason, connected_event, connected_reason}
 use Rattle.end_model.specs.Moments.{is_closed, is_idle, is_open, is_waiting_reply}
-use Rattle.end_model.specs.Reasons.{Reason, reason, out_of_order, fault_reason}
+use Rattle.end_model.specs.Reasons.{Reason, reason, out_of_order, not_asked, fault_reason}
 use Rattle.session_looks.specs.Frames.{header_why}
 use Rattle.l2tp_header.specs.Reading.{body_of}
 use Rattle.end_model.specs.Reading.{message_in, CallFault, call_fault_in, TunnelFault, tunnel_fault_in}
@@ -40,6 +41,7 @@ use Rattle.end_model.specs.Stopping.{closes_tunnel, rejects, closed_by}
 use Rattle.end_model.specs.Refusing.{refuses}
 use Rattle.end_model.specs.Asking.{session_named, granted, asked_by}
 use Rattle.end_model.specs.Connecting.{first_up_by, second_up_by, ends_named}
+use Rattle.end_model.specs.Querying.{answers_query, told_at, hears_answer}
 use Rattle.end_model.specs.Faulty.{in_faulty_call}
 use Rattle.end_model.specs.Codes.{facilities_never}
 
@@ -75,6 +77,15 @@ about_call role calls session m t = takes_plain t
 unfoldable pub in_call : Role → List (ℕ × Call) → ℕ → Message → Turn → Turn
 in_call role calls session m t = if is_open t.control.state then about_call role calls session m t else ignores why.Session t
 
+-- only an open tunnel has sessions
+unfoldable pub in_query : List (ℕ × Call) → List Pair → Turn → Turn
+in_query calls sessions t = if is_open t.control.state then answers_query calls sessions t else takes_plain t
+
+-- an answer that wasn't asked for closes the tunnel, whatever its state
+unfoldable pub heeds_answer : Role → Config → List (ℕ × Call) → List Pair → Result (List Pair) ℕ → Turn → Turn
+heeds_answer role c calls answers (Ok gone) t = hears_answer calls answers gone t
+heeds_answer role c calls answers (Err place) t = takes role c calls not_asked event.AdminClose (tells_id 0) t
+
 unfoldable pub hears : Role → Config → List (ℕ × Call) → ℕ → Message → Turn → Turn
 hears role c calls session (Sccrq o) t =
     takes role c calls (opening_reason c.secret None o) (event_by event.SccrqAcc event.SccrqNotAcc c.secret None o) (tells_id 0) t
@@ -94,9 +105,8 @@ hears role c calls session Ocrp t = takes_plain t
 hears role c calls session Occn t = takes_plain t
 hears role c calls session Wen t = takes_plain t
 hears role c calls session Sli t = takes_plain t
--- queries of sessions, which no end reads so far: they are of an unknown type to it
-hears role c calls session (Fsq sessions) t = takes_plain t
-hears role c calls session (Fsr sessions) t = takes_plain t
+hears role c calls session (Fsq sessions) t = in_query calls sessions t
+hears role c calls session (Fsr answers) t = heeds_answer role c calls answers (told_at t.control.state t.query answers) t
 
 -- a letter that has a fault is one about a call, or is an event of the tunnel's table; one of an unknown type that need not be
 -- understood has none

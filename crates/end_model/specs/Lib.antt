@@ -21,6 +21,7 @@ pub mod Asking
 pub mod Linking
 pub mod Connecting
 pub mod Faulty
+pub mod Querying
 pub mod Hearing
 pub mod Ticking
 pub mod Events

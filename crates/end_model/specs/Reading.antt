@@ -15,11 +15,19 @@ use Rattle.control_message.specs.declared.message.MessageError.{MessageError}
 use Rattle.control_message.specs.declared.message.MessageError.TheVariants.{NoType, UnknownType, UnknownMandatory, HiddenWithoutVector, BadValue, Missing}
 use Rattle.control_message.specs.declared.kind.Kind.{Kind}
 use Rattle.control_message.specs.declared.kind.Kind.TheVariants as kind
-use Rattle.control_message.specs.Reading.{message_of, kind_of_pairs, plain_short}
+use Rattle.control_message.specs.declared.kind.Kinds.TheVariants.{Queries}
+use Rattle.control_message.specs.Reading.{message_by, kind_by, plain_short}
 use Rattle.tunnel_fsm.specs.declared.table.TunnelEvent.{TunnelEvent}
 use Rattle.tunnel_fsm.specs.declared.table.TunnelEvent.TheVariants as event
 use Rattle.end_model.specs.declared.event.Addressee.{Addressee}
 use Rattle.end_model.specs.declared.event.Addressee.TheVariants.{Opens, Recovers, Stops, Answers, Main, Nobody}
+
+-- what pairs say to an end, and of which kind they are: it knows the messages of RFC 2661, and the queries of sessions of RFC 4951
+abbrev pub message_said : List Avp → Result Read MessageError
+message_said avps = message_by Queries avps
+
+abbrev pub kind_said : List Avp → Option Kind
+kind_said avps = kind_by Queries avps
 
 -- the message that pairs make, or why it is ignored
 unfoldable pub message_read : Result Read MessageError → Result Message Why
@@ -28,7 +36,7 @@ message_read (Ok (Ignored n)) = Err why.Ignored
 message_read (Err e) = Err why.Avp
 
 unfoldable pub pairs_read : Result (List Avp) AvpError → Result Message Why
-pairs_read (Ok avps) = message_read (message_of avps)
+pairs_read (Ok avps) = message_read (message_said avps)
 pairs_read (Err e) = Err why.Avp
 
 unfoldable pub message_in : List ℕ → Result Message Why
@@ -86,10 +94,10 @@ fault_of_kind (Some k) e avps =
 
 abbrev pub fault_read : List Avp → Result Read MessageError → Option CallFault
 fault_read avps (Ok r) = None
-fault_read avps (Err e) = fault_of_kind (kind_of_pairs avps) e avps
+fault_read avps (Err e) = fault_of_kind (kind_said avps) e avps
 
 unfoldable pub fault_of_pairs : Result (List Avp) AvpError → Option CallFault
-fault_of_pairs (Ok avps) = fault_read avps (message_of avps)
+fault_of_pairs (Ok avps) = fault_read avps (message_said avps)
 fault_of_pairs (Err e) = None
 
 unfoldable pub call_fault_in : List ℕ → Option CallFault
@@ -132,10 +140,10 @@ abbrev pub tunnel_fault_read : List Avp → Result Read MessageError → Option 
 tunnel_fault_read avps (Ok r) = None
 tunnel_fault_read avps (Err NoType) = Some (closing event.AdminClose cause.Avp 0)
 tunnel_fault_read avps (Err (UnknownType n)) = Some (closing event.AdminClose cause.Mandatory 0)
-tunnel_fault_read avps (Err e) = tunnel_fault_of_kind (kind_of_pairs avps) e avps
+tunnel_fault_read avps (Err e) = tunnel_fault_of_kind (kind_said avps) e avps
 
 unfoldable pub tunnel_fault_of_pairs : Result (List Avp) AvpError → Option TunnelFault
-tunnel_fault_of_pairs (Ok avps) = tunnel_fault_read avps (message_of avps)
+tunnel_fault_of_pairs (Ok avps) = tunnel_fault_read avps (message_said avps)
 tunnel_fault_of_pairs (Err e) = Some (closing event.AdminClose cause.Avp 0)
 
 unfoldable pub tunnel_fault_in : List ℕ → Option TunnelFault
@@ -167,10 +175,10 @@ zero_read avps (Ok (Known (Sccrq o))) = if is_some o.recovery then Recovers o.tu
 zero_read avps (Ok (Known (Sccrp o))) = Answers o.tunnel
 zero_read avps (Ok (Known (StopCcn tunnel code error))) = stopped (Some tunnel)
 zero_read avps (Ok r) = Nobody why.Tunnel
-zero_read avps (Err e) = zero_faulty (kind_of_pairs avps) avps
+zero_read avps (Err e) = zero_faulty (kind_said avps) avps
 
 unfoldable pub zero_pairs : Result (List Avp) AvpError → Addressee
-zero_pairs (Ok avps) = zero_read avps (message_of avps)
+zero_pairs (Ok avps) = zero_read avps (message_said avps)
 zero_pairs (Err e) = Nobody why.Avp
 
 unfoldable pub at_zero : List ℕ → Addressee

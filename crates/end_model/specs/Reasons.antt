@@ -21,6 +21,10 @@ out_of_state = reason cause.State general_error (Some invalid_session)
 abbrev pub out_of_order : Reason
 out_of_order = reason cause.State state_machine_error None
 
+-- an answer to a query of sessions that wasn't asked for, or differs from what was
+abbrev pub not_asked : Reason
+not_asked = reason cause.Query state_machine_error None
+
 -- its version isn't 1.0
 abbrev pub other_version : Reason
 other_version = reason cause.Version version_not_supported None

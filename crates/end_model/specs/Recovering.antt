@@ -26,6 +26,7 @@ use Rattle.recovery_tunnel.specs.declared.progress.Progress.TheVariants as progr
 use Rattle.recovery_tunnel.specs.Connections.{ControlConnection, refuses, told_by_refusal, is_lost}
 use Rattle.recovery_tunnel.specs.Attempts.{new_attempt, told_to_attempt, attempt_after, is_attempt_over}
 use Rattle.recovery_tunnel.specs.Answers.{Answering, new_answer, told_to_answer, answer_after, is_answer_over}
+use Rattle.session_query.specs.Queries.{new_query}
 use Rattle.end_names.specs.declared.role.Role.{Role}
 use Rattle.end_model.specs.declared.tunnel.Call.{Call}
 use Rattle.end_model.specs.declared.tunnel.Config.{Config}
@@ -34,13 +35,14 @@ use Rattle.end_model.specs.declared.out.Out.{Out}
 use Rattle.end_model.specs.declared.out.Out.TheVariants.{Send, Cause}
 use Rattle.end_model.specs.declared.out.Origin.TheVariants as origin
 use Rattle.end_model.specs.declared.moves.Move.TheVariants as move
-use Rattle.end_model.specs.Calls.{is_up}
+use Rattle.end_model.specs.Calls.{is_up, sessions_of}
 use Rattle.end_model.specs.declared.event.Event.{Event}
 use Rattle.end_model.specs.declared.event.Event.TheVariants.{Tick}
 use Rattle.end_model.specs.Events.{turns, with_calls}
 use Rattle.end_model.specs.Messages.{opening_of}
 use Rattle.end_model.specs.Reading.{message_in, CallFault, call_fault_in, TunnelFault, tunnel_fault_in}
 use Rattle.end_model.specs.Secrets.{challenge_by, response_by}
+use Rattle.end_model.specs.Querying.{asks_next}
 use Rattle.end_model.specs.Stopping.{clears}
 use Rattle.end_model.specs.Tunnels.{Tunnel, Turn, Recovering, ByAttempt, ByAnswer, connection_of, with_connection, is_finished}
 use Rattle.end_model.specs.Turn.{with_output, with_move, drops, ends_call}
@@ -148,21 +150,22 @@ froze role c calls o local draw t =
 
 -- ---- resets
 
--- the channel begins anew, without a letter; its numbers are those of the wire
-unfoldable pub resets : ℕ → ℕ → ℕ → List Letter → Turn → Turn
-resets send_from expect mark letters t = record t {
+-- the channel begins anew, without a letter; its numbers are those of the wire. The sessions that are established are those to ask for
+unfoldable pub resets : ℕ → ℕ → ℕ → List Letter → List (ℕ × Call) → Turn → Turn
+resets send_from expect mark letters calls t = record t {
   control = record t.control { channel = reset_at t.control.channel (on_wire send_from) (on_wire expect); mark = mark };
+  query = new_query (sessions_of calls);
   given = [];
   acked = length letters;
 }
 
-unfoldable pub resets_by : List Letter → Suggested → ℕ → Recovering → Turn → Turn
-resets_by letters s draw (ByAttempt c) t =
+unfoldable pub resets_by : List Letter → List (ℕ × Call) → Suggested → ℕ → Recovering → Turn → Turn
+resets_by letters calls s draw (ByAttempt c) t =
     with_move (move.ResetAttempting (record { tunnel = t.control.local; peer = t.control.peer; remote = t.control.remote; attempt = c.local; answer = c.remote; draw = draw; send_from = s.ns; expect = s.nr; marked = nat_lt t.control.mark draw }))
-    (resets s.ns s.nr (max t.control.mark draw) letters t)
-resets_by letters s draw (ByAnswer a) t =
+    (resets s.ns s.nr (max t.control.mark draw) letters calls t)
+resets_by letters calls s draw (ByAnswer a) t =
     with_move (move.ResetAnswering (record { tunnel = t.control.local; peer = t.control.peer; remote = t.control.remote; answer = a.connection.local; attempt = a.connection.remote; send_from = s.nr; expect = s.ns }))
-    (resets s.nr s.ns t.control.mark letters t)
+    (resets s.nr s.ns t.control.mark letters calls t)
 
 -- ---- letters that it takes
 
@@ -192,10 +195,14 @@ abbrev pub after_fault : Option Because → Recovering → Recovering
 after_fault None r = r
 after_fault (Some x) r = with_connection (refuses x (connection_of r)) r
 
--- what becomes of the tunnel
+-- the tunnel goes on, and begins to ask
+abbrev pub begins_to_ask : List Letter → RecoveryTurn → RecoveryTurn
+begins_to_ask letters v = record v { turn = asks_next letters v.turn }
+
+-- what becomes of the tunnel; where it is reset, the recovery tunnel's letter goes first
 unfoldable pub follows : List Letter → List (ℕ × Call) → Progress → Recovering → Turn → RecoveryTurn
 follows letters calls progress.Waiting r t = goes r t
-follows letters calls (progress.Reset s draw) r t = goes r (resets_by letters s (unwrap_or draw 0) r t)
+follows letters calls (progress.Reset s draw) r t = begins_to_ask letters (goes r (resets_by letters calls s (unwrap_or draw 0) r t))
 follows letters calls (progress.Given cause) r t =
     let v = goes r (with_output (Cause cause) t) in record v { turn = clears calls v.turn }
 follows letters calls progress.Cleared r t = with_recovery r (clears calls t)

@@ -10,6 +10,8 @@ use Rattle.end_model.specs.declared.tunnel.Mode.TheVariants.{Current, Frozen, Re
 pub use Rattle.recovery_tunnel.specs.declared.either.Recovering.{Recovering}
 pub use Rattle.recovery_tunnel.specs.declared.either.Recovering.TheVariants.{ByAttempt, ByAnswer}
 pub use Rattle.recovery_tunnel.specs.Either.{connection_of, with_connection}
+pub use Rattle.session_query.specs.Queries.{Asking}
+use Rattle.session_query.specs.Queries.{new_query}
 use Rattle.end_model.specs.declared.out.Out.{Out}
 use Rattle.end_model.specs.declared.moves.Move.{Move}
 
@@ -30,6 +32,10 @@ abbrev pub is_current : Mode → Bool
 is_current Current = true
 is_current m = false
 
+-- a tunnel that asks for no session: it wasn't reset since it was made, or kept over a start
+abbrev pub no_query : Asking
+no_query = new_query []
+
 pub record Tunnel : Type 0 where
   pub control : Control
   -- the letters that it gave to its channel, from the first that isn't acknowledged on
@@ -38,10 +44,12 @@ pub record Tunnel : Type 0 where
   pub calls : List (ℕ × Call)
   -- its recovery tunnel, as long as there is one
   pub recovery : Option Recovering
+  -- the sessions that it asks for since its last reset
+  pub query : Asking
 
--- a tunnel that is new: nothing was given to its channel, it has no calls, and nobody recovers it
+-- a tunnel that is new: nothing was given to its channel, it has no calls, nobody recovers it, and it asks for no session
 abbrev pub new_tunnel : Control → Tunnel
-new_tunnel c = record { control = c; letters = []; calls = []; recovery = None }
+new_tunnel c = record { control = c; letters = []; calls = []; recovery = None; query = no_query }
 
 -- what a step stands on, which nothing in it changes: its moment, in milliseconds, its 16 random bytes, and the mode that its tunnel had
 -- before
@@ -70,6 +78,7 @@ pub record Turn : Type 0 where
   pub on : Ground
   pub ids : Drawing
   pub control : Control
+  pub query : Asking
   -- the letters that the step gave to the channel, in order
   pub given : List Letter
   -- how many of the tunnel's letters the step's Nr acknowledged
@@ -90,6 +99,7 @@ turn_of c e = record {
   on = e.on;
   ids = e.ids;
   control = c;
+  query = no_query;
   given = [];
   acked = 0;
   took = false;
@@ -103,4 +113,4 @@ turn_of c e = record {
 
 -- of a tunnel that is there
 abbrev pub turn_in : Tunnel → Env → Turn
-turn_in t e = turn_of t.control (record e { on = record e.on { mode = mode_of t.recovery } })
+turn_in t e = record (turn_of t.control (record e { on = record e.on { mode = mode_of t.recovery } })) { query = t.query }

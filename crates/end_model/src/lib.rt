@@ -13,10 +13,10 @@ pub use end_names::{
 };
 pub use event::{Addressee, Event};
 pub use moves::{
-    Accepted, Added, Closed, ClosedBy, Confirmed, Connected, Counted, Declined, EndHeard,
-    EndSilent, EndTold, FirstUp, Forgot, FrameSent, FrameUp, Froze, Greeted, LetGo, Move,
-    Negotiated, NrRead, Opened, Place, Refused, Rejected, Repeated, Replied, Requested,
-    ResetAnswering, ResetAttempting, Restored, SecondUp, TookPlain,
+    Accepted, Added, AnsweredQuery, Closed, ClosedBy, Confirmed, Connected, Counted, Declined,
+    EndHeard, EndSilent, EndTold, FirstUp, Forgot, FrameSent, FrameUp, Froze, Greeted, LetGo, Move,
+    Negotiated, NrRead, Opened, Place, Queried, Refused, Rejected, Repeated, Replied, Requested,
+    ResetAnswering, ResetAttempting, Restored, SecondUp, TookAnswer, TookPlain,
 };
 pub use out::{ControlOrigin, Origin, Out};
 pub use tunnel::{Call, CallPlace, CallStep, CallSteps, Config, Control, Mode};

@@ -1,7 +1,7 @@
 //! What a step does to a tunnel or a call. Nobody prints it: what holds of every run is said over it.
 
 use session_book::{BookCall, BookTunnel};
-use wire_base::{Bytes, Sequence, Side};
+use wire_base::{Bytes, Pairs, Sequence, Side};
 
 /// The place of a letter in the list of letters that a tunnel was given, counted from 0.
 #[derive(Clone, Copy)]
@@ -315,6 +315,37 @@ pub struct ResetAnswering {
     pub expect: u16,
 }
 
+/// A tunnel asked by an FSQ for the next of the sessions that were established at its last reset, each by the own id and the one
+/// that the peer assigned (RFC 4951 section 5.4).
+#[derive(Drop)]
+pub struct Queried {
+    pub tunnel: u16,
+    pub pairs: Pairs,
+    pub given: Place,
+}
+
+/// A tunnel took an FSQ that asks for these sessions, and answered by an FSR with these pairs.
+#[derive(Drop)]
+pub struct AnsweredQuery {
+    pub tunnel: u16,
+    pub pairs: Pairs,
+    pub answers: Pairs,
+    pub taken: Place,
+    pub given: Place,
+}
+
+/// A tunnel took the FSR that answers its last FSQ, which asked for these sessions: it has these answers.
+#[derive(Drop)]
+pub struct TookAnswer {
+    pub tunnel: u16,
+    pub pairs: Pairs,
+    pub answers: Pairs,
+    /// The calls that ended, since the peer doesn't have them, in the order of the pairs. They were established. Their ids are those
+    /// of a table.
+    pub ended: Sequence<u32>,
+    pub taken: Place,
+}
+
 /// A PPP frame that was given for a call, or that its LCP end gave, was sent to the peer of its tunnel.
 #[derive(Drop)]
 pub struct FrameSent {
@@ -376,6 +407,9 @@ pub enum Move {
     Froze(Froze),
     ResetAttempting(ResetAttempting),
     ResetAnswering(ResetAnswering),
+    Queried(Queried),
+    AnsweredQuery(AnsweredQuery),
+    TookAnswer(TookAnswer),
     /// The recovery tunnel of a tunnel sent, took, was acknowledged, or closed itself.
     RecoveryWentOn { tunnel: u16 },
     /// The recovery tunnel of a tunnel that was reset is gone.

@@ -179,6 +179,7 @@ tunnel_later ns ms g n e x i t role le more h =
       calls = λ s c f. rw role (call_later ns ms g n e.role e.session_ids.next x.session_ids.next t.control.peer s c more (h.calls s c f));
       order = h.order;
       recovery = h.recovery;
+      query = h.query;
     }
 
 pub end_later : (ns ms : Nodes) → Grows ns ms → (n : ℕ) (e : End) → EndOk ns n e → EndOk ms n e

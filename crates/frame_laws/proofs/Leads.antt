@@ -5,7 +5,7 @@ use Rattle.id_table.specs.Order.{ascends-put, found_put}
 use Rattle.l2tp_header.specs.declared.header.Header.{Header}
 use Rattle.l2tp_header.specs.Reading.{header_of, body_of}
 use Rattle.control_message.specs.declared.message.Message.{Message}
-use Rattle.control_message.specs.declared.message.Message.TheVariants.{Sccrq}
+use Rattle.control_message.specs.declared.message.Message.TheVariants.{Sccrq, Fsq}
 use Rattle.end_model.specs.declared.event.Event.{Event}
 use Rattle.end_model.specs.declared.event.Event.TheVariants.{Datagram, Ring, Frame, Admitted, Payload, Lower, Lcp, Hang, OpenTunnel, DropCall, CloseTunnel, Tick}
 use Rattle.end_model.specs.declared.tunnel.Call.{Call}
@@ -82,11 +82,16 @@ heard_letter ns n ev heard peer session m h =
     let from : node_of peer ≡ k.from = ap node_of (sym h.peer_is ∙ k.address) ∙ node_again k.from k.number in
     (l.0, rw (from, ← h.says.session_is) l.1)
 
--- what is heard asks for no recovery
+-- what is heard asks for no recovery, and is no query of sessions
 pub heard_asks : (ns : Nodes) (n : ℕ) (ev : Event) → Heard ns n ev → AsksForNone ev
-heard_asks ns n ev heard k came o said =
-    (heard_letter ns n ev heard k.peer k.header.session (Sccrq o)
-    (record { letter = k; came = came; peer_is = refl; says = record { session_is = refl; said = said } })).0.0.recovery
+heard_asks ns n ev heard = (
+  (λ k came o said.
+      (heard_letter ns n ev heard k.peer k.header.session (Sccrq o)
+      (record { letter = k; came = came; peer_is = refl; says = record { session_is = refl; said = said } })).0.0.recovery),
+  (λ k came pairs said.
+      (heard_letter ns n ev heard k.peer k.header.session (Fsq pairs)
+      (record { letter = k; came = came; peer_is = refl; says = record { session_is = refl; said = said } })).0),
+)
 
 -- the session that a faulty message tells has 16 bits
 pub heard_faulty : (ns : Nodes) (n : ℕ) (ev : Event) → Heard ns n ev → (peer : ℕ) (bytes : List ℕ) (h : Header) → ev ≡ Datagram peer bytes

@@ -158,6 +158,7 @@ module _ (digits : (who : List ℕ) → length (calling_number who) ≡ 12) (n :
         calls = no_calls v.nodes n x.role x.session_ids.next m.peer;
         order = ascends-empty [] refl;
         recovery = refl;
+        query = refl;
       }))
 
   accepted_led : (moment : ℕ) (m : Accepted) (y : End) → Accepts x moment ev m y → Led v y
@@ -185,6 +186,7 @@ module _ (digits : (who : List ℕ) → length (calling_number who) ≡ 12) (n :
         calls = no_calls v.nodes n x.role x.session_ids.next c.peer;
         order = ascends-empty [] refl;
         recovery = refl;
+        query = refl;
       }))
 
   -- an end that differs from this one in a tunnel alone, and in what the data plane sees
@@ -218,6 +220,7 @@ module _ (digits : (who : List ℕ) → length (calling_number who) ≡ 12) (n :
         calls = rw peer o.calls;
         order = o.order;
         recovery = o.recovery;
+        query = o.query;
       }))
 
   -- the letters of a tunnel, with one more
@@ -282,6 +285,7 @@ module _ (digits : (who : List ℕ) → length (calling_number who) ≡ 12) (n :
         calls = rw (sets.role, next, peer) are;
         order = order;
         recovery = o.recovery;
+        query = o.query;
       })
 
   -- a call of the tunnel goes on
@@ -444,6 +448,7 @@ module _ (digits : (who : List ℕ) → length (calling_number who) ≡ 12) (n :
         calls = no_calls v.nodes n x.role x.session_ids.next c.peer;
         order = ascends-empty [] refl;
         recovery = o.recovery;
+        query = o.query;
       }))
 
   closed_led : (moment : ℕ) (m : Closed) (y : End) → Closes x moment ev m y → Led v y
@@ -457,7 +462,7 @@ module _ (digits : (who : List ℕ) → length (calling_number who) ≡ 12) (n :
   rejected_led : (moment : ℕ) (m : Rejected) (y : End) → Rejects x moment ev m y → Led v y
   rejected_led moment m y h =
       let o = here.end.tunnels m.tunnel h.tunnel h.there in
-      let k = letter_codes_fit x.config.secret h.tunnel.control h.letter h.on m.remote m.result m.error h.why in
+      let k = letter_codes_fit x.config.secret h.tunnel.control h.tunnel.query h.letter h.on m.remote m.result m.error h.why in
       let id : m.tunnel < 65536 = (let d = o.drawn in let most = here.end.most_tunnels in omega arith) in
       let told = told_fits v.nodes n ev heard x.config.secret h.tunnel h.letter h.takes.next h.on m.remote m.result m.error h.why in
       shut_led y m.tunnel h.tunnel _ _ h.there h.after refl refl told
@@ -582,6 +587,7 @@ module _ (digits : (who : List ℕ) → length (calling_number who) ≡ 12) (n :
           calls = rw (sets.role, next, peer) calls;
           order = ascends-put s k t.calls o.order;
           recovery = o.recovery;
+          query = o.query;
         })
 
     -- the letters that a tunnel had may still be read
@@ -686,7 +692,7 @@ module _ (digits : (who : List ℕ) → length (calling_number who) ≡ 12) (n :
 
   -- so no tunnel has a recovery tunnel, and each move is main
   pub none_recovers : NoneRecovers x
-  none_recovers i t there = (here.end.tunnels i t there).recovery
+  none_recovers i t there = let ok = here.end.tunnels i t there in (ok.recovery, ok.query)
 
   -- each move
   pub does_led : (moment : ℕ) (m : Move) → IsMain m → (y : End) → Does x moment ev m y → Led (moved n v m) y

@@ -2,7 +2,7 @@
 use Rattle.control_message.specs.declared.message.Message.{Message}
 use Rattle.control_message.specs.declared.message.Message.TheVariants.{Sccrq, Sccrp, Fsq, Fsr}
 use Rattle.control_message.specs.declared.message.Opening.{Opening}
-use Rattle.control_message.specs.declared.kind.Kinds.TheVariants.{Base}
+use Rattle.control_message.specs.declared.kind.Kinds.TheVariants.{Queries}
 use Rattle.control_message.specs.Pairs as codec
 use Rattle.control_message.specs.Grammar.{IsKnownTo}
 use Rattle.frame_laws.specs.Written.{IsWrittenOpening, IsWritten}
@@ -33,7 +33,7 @@ whole (Fsr sessions) w = absurd w
 whole m w = w
 
 -- each end reads it
-pub is_read : (m : Message) → IsWritten m → IsKnownTo m Base
-is_read (Fsq sessions) w = w
-is_read (Fsr sessions) w = w
+pub is_read : (m : Message) → IsWritten m → IsKnownTo m Queries
+is_read (Fsq sessions) w = absurd w
+is_read (Fsr sessions) w = absurd w
 is_read m w = tt

@@ -10,7 +10,7 @@ use Rattle.control_message.specs.declared.message.Message.{Message}
 use Rattle.control_message.specs.declared.message.Read.TheVariants.{Known}
 use Rattle.control_message.specs.HiddenRequests.{HiddenRequestsAreRead}
 use Rattle.control_message.specs.Pairs.{pairs_of}
-use Rattle.control_message.specs.Reading.{message_of}
+use Rattle.end_model.specs.Reading.{message_said}
 use Rattle.end_names.specs.Names.{calling_number}
 use Rattle.frame_laws.specs.Written.{IsWritten}
 
@@ -20,7 +20,8 @@ pub record Codecs : Type 0 where
       → Carries (control_bytes tunnel session ns nr avps) (control_header tunnel session ns nr (length avps)) avps
   pub frame : (tunnel session : ℕ) (number : Option ℕ) (frame : List ℕ) → tunnel < 2 ^ 16 → session < 2 ^ 16 → FitsWord number
       → Carries (data_bytes tunnel session number frame) (data_header tunnel session number (2 + length frame)) (hdlc_bytes frame)
-  pub message : (m : Message) → IsWritten m → (avps_of (spelling (pairs_of m)) ≡ Ok (pairs_of m)) × (message_of (pairs_of m) ≡ Ok (Known m))
+  pub message : (m : Message) → IsWritten m
+      → (avps_of (spelling (pairs_of m)) ≡ Ok (pairs_of m)) × (message_said (pairs_of m) ≡ Ok (Known m))
   pub pairs : (v : List Avp) → AreAvps v → avps_of (spelling v) ≡ Ok v
   pub room : (m : Message) → IsWritten m → length (spelling (pairs_of m)) ≤ 65523
   pub hidden : HiddenRequestsAreRead

@@ -13,7 +13,7 @@ use Rattle.end_names.specs.declared.role.Role.{Role}
 use Rattle.end_names.specs.declared.role.Role.TheVariants.{Lac, Lns}
 use Rattle.world_model.specs.declared.packet.Packet.{Packet}
 use Rattle.end_names.specs.Names.{node_of}
-use Rattle.end_model.specs.Tunnels.{Tunnel}
+use Rattle.end_model.specs.Tunnels.{Tunnel, no_query}
 use Rattle.end_model.specs.declared.event.Addressee.TheVariants.{Opens, Answers}
 use Rattle.end_model.specs.Secrets.{uncovered_datagram}
 use Rattle.end_model.specs.Channels.{letter_as}
@@ -169,8 +169,9 @@ pub record TunnelOk (ns : Nodes) (n : ℕ) (e : End) (i : ℕ) (t : Tunnel) : Ty
   pub letters : LettersOk ns n t.control.peer t.letters
   pub calls : CallsOk ns n e.role e.session_ids.next t.control.peer t.calls
   pub order : Ascends t.calls
-  -- nobody recovers it
+  -- nobody recovers it, and it asks for no session
   pub recovery : t.recovery ≡ None
+  pub query : t.query ≡ no_query
 
 pub record EndOk (ns : Nodes) (n : ℕ) (e : End) : Type 0 where
   pub number : e.config.number < 256

@@ -1,4 +1,5 @@
 pub mod Written
+pub mod Said
 pub mod Codecs
 pub mod Plain
 pub mod Past

@@ -23,7 +23,7 @@ use Rattle.control_message.specs.declared.message.Read.TheVariants.{Known}
 use Rattle.control_message.specs.declared.kind.Kind.TheVariants as kind
 use Rattle.control_message.specs.HiddenRequests.{IsReadAnyway, WithANumber, WithoutANumber, hidden_pairs, ReadsAnyway}
 use Rattle.control_message.specs.Pairs.{pairs_of, failover_pairs, recovery_pairs, suggested_pairs, draw_pairs, recovering_pairs, challenge_pairs, response_pairs, secret_pairs, opening_pairs, session_pairs, IsWrittenWith}
-use Rattle.control_message.specs.Reading.{message_of, kind_of_pairs, plain_short}
+use Rattle.control_message.specs.Reading.{plain_short}
 use Rattle.control_message.specs.Uncovering.{uncovered}
 use Rattle.end_model.specs.Secrets.{has_hidden, uncovered_pairs, uncovered_by, uncovered_datagram}
 use Rattle.end_model.specs.declared.event.Addressee.TheVariants.{Nobody}
@@ -31,10 +31,11 @@ use Rattle.end_model.specs.declared.tunnel.Config.{Config}
 use Rattle.end_model.specs.Channels.{letter_as}
 use Rattle.end_model.specs.Messages.{request_of}
 use Rattle.end_names.specs.Names.{calling_number}
-use Rattle.end_model.specs.Reading.{message_in, pairs_read, message_read, CallFault, call_fault_in, fault_of_pairs, tunnel_fault_in, tunnel_fault_of_pairs, at_zero, zero_pairs, zero_read}
+use Rattle.end_model.specs.Reading.{message_in, pairs_read, message_read, CallFault, call_fault_in, fault_of_pairs, tunnel_fault_in, tunnel_fault_of_pairs, at_zero, zero_pairs, zero_read, message_said, kind_said}
 use Rattle.step_laws.specs.Hides.{HidesNumber, InPlain, ByVector}
 use Rattle.frame_laws.specs.Codecs.{Codecs}
 use Rattle.frame_laws.specs.Written.{IsWritten}
+use Rattle.frame_laws.specs.Said.{known_said, bad_value_said, kind_known}
 
 -- two lists of which neither hides a value hide none
 both_plain : (v w : List Avp) → has_hidden v ≡ false → has_hidden w ≡ false → has_hidden (v ++ w) ≡ false
@@ -146,9 +147,10 @@ AreAlike m x = without_number m ≡ without_number x
 
 -- what the pairs of a message that was sent are read as: it, or the same request with another number, or one without a number
 pub data IsReadAs (m : Message) (body : List ℕ) : Type 0 where
-  AsAMessage : (avps : List Avp) (x : Message) → avps_of body ≡ Ok avps → message_of avps ≡ Ok (Known x) → IsWritten x → AreAlike m x → IsReadAs m body
+  AsAMessage : (avps : List Avp) (x : Message) → avps_of body ≡ Ok avps → message_said avps ≡ Ok (Known x) → IsWritten x → AreAlike m x
+      → IsReadAs m body
   AsAFault : (avps : List Avp) (own serial : ℕ) (number : List ℕ) → m ≡ Icrq own serial (Some number) → own < 2 ^ 16 → avps_of body ≡ Ok avps
-      → message_of avps ≡ Err (BadValue 22) → kind_of_pairs avps ≡ Some kind.Icrq → plain_short 14 avps ≡ Some own → IsReadAs m body
+      → message_said avps ≡ Err (BadValue 22) → kind_said avps ≡ Some kind.Icrq → plain_short 14 avps ≡ Some own → IsReadAs m body
 
 -- a request that an end makes
 pub number_hides : (c : Config) (session : ℕ) (who : List ℕ) (hidden : Option (List ℕ)) → session < 65536 → length (calling_number who) ≡ 12
@@ -168,7 +170,7 @@ number_hides c session who hidden fits digits (ByVector secret vector hides has 
 -- ---- what is read in such pairs
 
 -- a message that can be read
-module _ (body : List ℕ) (avps : List Avp) (x : Message) (pairs : avps_of body ≡ Ok avps) (reads : message_of avps ≡ Ok (Known x)) where
+module _ (body : List ℕ) (avps : List Avp) (x : Message) (pairs : avps_of body ≡ Ok avps) (reads : message_said avps ≡ Ok (Known x)) where
   pub message_there : message_in body ≡ Ok x
   unfolding message_in pairs_read message_read
   message_there = rw (pairs, reads) refl
@@ -189,8 +191,8 @@ module _ (body : List ℕ) (avps : List Avp) (x : Message) (pairs : avps_of body
 abbrev pub number_fault : ℕ → CallFault
 number_fault own = record { kind = kind.Icrq; cause = cause.Value; session = Some own }
 
-module _ (body : List ℕ) (avps : List Avp) (own : ℕ) (pairs : avps_of body ≡ Ok avps) (fault : message_of avps ≡ Err (BadValue 22))
-    (kind_is : kind_of_pairs avps ≡ Some kind.Icrq) (told : plain_short 14 avps ≡ Some own) where
+module _ (body : List ℕ) (avps : List Avp) (own : ℕ) (pairs : avps_of body ≡ Ok avps) (fault : message_said avps ≡ Err (BadValue 22))
+    (kind_is : kind_said avps ≡ Some kind.Icrq) (told : plain_short 14 avps ≡ Some own) where
   pub no_message_there : message_in body ≡ Err why.Avp
   unfolding message_in pairs_read message_read
   no_message_there = rw (pairs, fault) refl
@@ -267,9 +269,12 @@ module _ (codecs : Codecs) (secret : Option (List ℕ)) where
 
       by : IsReadAnyway h.own h.serial (uncovered secret hiding) → IsReadAs m (spelling (uncovered secret hiding))
       by (WithANumber other short reads) =
-          AsAMessage (uncovered secret hiding) (Icrq h.own h.serial (Some other)) again reads (h.written.0.0, h.written.0.1, short) (rw h.is refl)
-      by (WithoutANumber fault kind told) =
-          AsAFault (uncovered secret hiding) h.own h.serial h.number h.is h.written.0.0 again fault kind told
+          AsAMessage (uncovered secret hiding) (Icrq h.own h.serial (Some other)) again
+          (known_said (uncovered secret hiding) (Icrq h.own h.serial (Some other)) reads) (h.written.0.0, h.written.0.1, short)
+          (rw h.is refl)
+      by (WithoutANumber fault named told) =
+          AsAFault (uncovered secret hiding) h.own h.serial h.number h.is h.written.0.0 again
+          (bad_value_said (uncovered secret hiding) 22 fault) (kind_known (uncovered secret hiding) kind.Icrq named) told
 
       bytes : List ℕ
       bytes = control_bytes tunnel session ns nr (spelling hiding)

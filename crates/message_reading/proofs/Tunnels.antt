@@ -7,7 +7,7 @@ use Rattle.std.specs.Prelude.{◌==◌, ◌&&◌, not, length, is_some, IfOk, if
 use Rattle.byteorder.specs.Endian.{big_number}
 use Rattle.wire_base.specs.Answers.{◌>>=◌}
 use Rattle.avp_codec.specs.declared.avp.Avp.{Avp}
-use Rattle.control_message.specs.declared.kind.Kinds.TheVariants.{Base}
+use Rattle.control_message.specs.declared.kind.Kinds.TheVariants.{Queries}
 use Rattle.control_message.specs.declared.kind.Kind.{Kind}
 use Rattle.control_message.specs.declared.kind.Kind.TheVariants as kind
 use Rattle.control_message.specs.declared.kind.Shape.{Shape}
@@ -22,10 +22,10 @@ use Rattle.control_message.specs.declared.message.Read.TheVariants.{Known}
 use Rattle.control_message.specs.declared.message.MessageError.{MessageError}
 use Rattle.control_message.specs.declared.message.MessageError.TheVariants.{BadValue, HiddenWithoutVector}
 use Rattle.control_message.specs.Table.{kind_of, shape_of, fits}
-use Rattle.control_message.specs.Reading.{is_at, first, has_vector, checked, checked_all, value_in, value_at, number_in, u16_at, u32_at, window_at, failover_at, recovery_at, draw_at, response_at, suggested_at, result_code_at, opening_at, stop_ccn_at, of_kind, type_number, of_type, with_type, kind_named, kind_by, ocrq_at, icrq_at, icrp_at, iccn_at, cdn_at, wen_at, sli_at, message_by, message_of, kind_of_pairs, is_plain_short, short_in, plain_short}
+use Rattle.control_message.specs.Reading.{is_at, first, has_vector, checked, checked_all, value_in, value_at, number_in, u16_at, u32_at, window_at, failover_at, recovery_at, draw_at, response_at, suggested_at, result_code_at, opening_at, stop_ccn_at, of_kind, type_number, of_type, with_type, kind_named, kind_by, ocrq_at, icrq_at, icrp_at, iccn_at, cdn_at, wen_at, sli_at, message_by, is_plain_short, short_in, plain_short}
 use Rattle.end_model.specs.declared.event.Addressee.{Addressee}
 use Rattle.end_model.specs.declared.event.Addressee.TheVariants.{Opens, Recovers, Answers}
-use Rattle.end_model.specs.Reading.{stopped, told_or_none, zero_faulty, zero_read}
+use Rattle.end_model.specs.Reading.{kind_said, message_said, stopped, told_or_none, zero_faulty, zero_read}
 
 -- ---- what holds of an answer, whatever it is
 
@@ -189,12 +189,12 @@ module _ (avps : List Avp) (none : first 77 avps ≡ None) where
   abbrev Reads : Option Kind → Result Read MessageError → Type 0
   Reads k r = zero_read avps r ≡ zero_faulty k avps
 
-  read_so : (k : Kind) (r : Result Message MessageError) → kind_of_pairs avps ≡ Some k → IfOk r (Same k) → Reads (Some k) (r >>= λ m. Ok (Known m))
+  read_so : (k : Kind) (r : Result Message MessageError) → kind_said avps ≡ Some k → IfOk r (Same k) → Reads (Some k) (r >>= λ m. Ok (Known m))
   unfolding zero_read
   read_so k (Ok m) is h = h
   read_so k (Err e) is h = ap (λ o. zero_faulty o avps) is
 
-  typed : (n : ℕ) (mandatory : Bool) (o : Option Kind) → kind_of_pairs avps ≡ o → Reads o (of_type n mandatory o avps)
+  typed : (n : ℕ) (mandatory : Bool) (o : Option Kind) → kind_said avps ≡ o → Reads o (of_type n mandatory o avps)
   unfolding zero_read
   typed n true None is = ap (λ o. zero_faulty o avps) is
   typed n false None is = refl
@@ -204,16 +204,16 @@ module _ (avps : List Avp) (none : first 77 avps ≡ None) where
       by (Ok u) whole = read_so k (of_kind k avps) is (by_kind k whole)
       by (Err e) whole = ap (λ o. zero_faulty o avps) is
 
-  named : (a : Avp) (r : Result ℕ MessageError) → type_number a ≡ r → kind_of_pairs avps ≡ kind_named Base r → Reads (kind_of_pairs avps) (r >>= λ n. of_type n a.mandatory (kind_of Base n) avps)
+  named : (a : Avp) (r : Result ℕ MessageError) → type_number a ≡ r → kind_said avps ≡ kind_named Queries r → Reads (kind_said avps) (r >>= λ n. of_type n a.mandatory (kind_of Queries n) avps)
   unfolding zero_read
-  named a (Ok n) is told = subst (λ o. Reads o (of_type n a.mandatory (kind_of Base n) avps)) (sym told) (typed n a.mandatory (kind_of Base n) told)
+  named a (Ok n) is told = subst (λ o. Reads o (of_type n a.mandatory (kind_of Queries n) avps)) (sym told) (typed n a.mandatory (kind_of Queries n) told)
   named a (Err e) is told = refl
 
-  first_type : (o : Option Avp) → first 0 avps ≡ o → Reads (kind_of_pairs avps) (with_type Base o avps)
+  first_type : (o : Option Avp) → first 0 avps ≡ o → Reads (kind_said avps) (with_type Queries o avps)
   unfolding zero_read kind_by
   first_type None is = refl
   first_type (Some a) is = named a (type_number a) refl (rw is refl)
 
-  pub zero_is : zero_read avps (message_of avps) ≡ zero_faulty (kind_of_pairs avps) avps
+  pub zero_is : zero_read avps (message_said avps) ≡ zero_faulty (kind_said avps) avps
   unfolding message_by
   zero_is = first_type (first 0 avps) refl

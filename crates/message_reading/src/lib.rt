@@ -16,7 +16,7 @@ pub use openings::{
 };
 pub use reading::{CallFault, Said, TunnelFault, read_body};
 pub use reasons::{
-    Reason, fault_reason, no_id, no_outgoing, no_tunnel, out_of_order, out_of_state,
+    Reason, fault_reason, no_id, no_outgoing, no_tunnel, not_asked, out_of_order, out_of_state,
 };
 pub use uncovering::uncover_datagram;
 pub use zero::at_zero;

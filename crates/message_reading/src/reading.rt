@@ -2,8 +2,7 @@
 
 ghost use Rattle.std.specs.Prelude.{◌≡◌, Ok, Err, Some, IfOk};
 ghost use Rattle.tunnel_fsm.specs.declared.table.TunnelEvent.TheVariants as event;
-ghost use Rattle.control_message.specs.Reading.{kind_of_pairs};
-ghost use Rattle.end_model.specs.Reading.{message_in, pairs_read, fault_cause, is_about_call, is_request, is_value, is_for_call, fault_of_kind, fault_of_pairs, call_fault_in, event_of_kind, told_by_kind, closing, closing_by, tunnel_fault_of_kind, tunnel_fault_read, tunnel_fault_of_pairs, tunnel_fault_in};
+ghost use Rattle.end_model.specs.Reading.{kind_said, message_in, pairs_read, fault_cause, is_about_call, is_request, is_value, is_for_call, fault_of_kind, fault_of_pairs, call_fault_in, event_of_kind, told_by_kind, closing, closing_by, tunnel_fault_of_kind, tunnel_fault_read, tunnel_fault_of_pairs, tunnel_fault_in};
 
 use avp_codec::{AvpError, LentAvps};
 use control_message::{
@@ -93,9 +92,9 @@ fn is_for_call(kind: Kind, session: Option<u16>, cause: Option<Cause>) -> bool
 
 /// The fault of pairs that aren't read, where they are about a call.
 fn fault_of(avps: &LentAvps<'_>, error: MessageError) -> Option<CallFault>
-    ensures { result ≡ fault_of_kind (kind_of_pairs avps.now) error avps.now }
+    ensures { result ≡ fault_of_kind (kind_said avps.now) error avps.now }
 {
-    let kind = kind_of_pairs(avps, Kinds::Base)?;
+    let kind = kind_of_pairs(avps, Kinds::Queries)?;
     let session = assigned_session(avps);
     let cause = fault_cause(error);
     if !is_for_call(kind, session, cause) {
@@ -145,9 +144,9 @@ fn closing(cause: Cause) -> Option<TunnelFault>
 
 /// The fault of pairs of a known kind that aren't read, where they aren't about a call.
 fn closing_of_kind(avps: &LentAvps<'_>, error: MessageError) -> Option<TunnelFault>
-    ensures { result ≡ tunnel_fault_of_kind (kind_of_pairs avps.now) error avps.now }
+    ensures { result ≡ tunnel_fault_of_kind (kind_said avps.now) error avps.now }
 {
-    let kind = kind_of_pairs(avps, Kinds::Base)?;
+    let kind = kind_of_pairs(avps, Kinds::Queries)?;
     let cause = fault_cause(error);
     if is_for_call(kind, assigned_session(avps), cause) {
         return None;
@@ -178,7 +177,7 @@ fn said_of(alloc: Global, avps: &LentAvps<'_>) -> Result<Said, NoMemory>
     ensures fault { IfOk result (λ said. said.fault ≡ fault_of_pairs (Ok avps.now)) }
     ensures closing { IfOk result (λ said. said.closing ≡ tunnel_fault_of_pairs (Ok avps.now)) }
 {
-    match read_message(alloc, avps, None, Kinds::Base) {
+    match read_message(alloc, avps, None, Kinds::Queries) {
         Ok(Read::Known(message)) => Ok(Said {
             message: Ok(message),
             fault: None,

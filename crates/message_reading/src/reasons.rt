@@ -2,7 +2,7 @@
 
 ghost use Rattle.std.specs.Prelude.{◌≡◌, None};
 ghost use Rattle.wire_base.specs.declared.cause.Cause.TheVariants as cause;
-ghost use Rattle.end_model.specs.Reasons.{reason, out_of_state, out_of_order, no_tunnel, no_id, fault_error, fault_reason};
+ghost use Rattle.end_model.specs.Reasons.{reason, out_of_state, out_of_order, not_asked, no_tunnel, no_id, fault_error, fault_reason};
 
 use std::marker::Model;
 use wire_base::Cause;
@@ -41,6 +41,17 @@ pub fn out_of_order() -> Reason
 {
     Reason {
         cause: Cause::State,
+        code: 7,
+        error: None,
+    }
+}
+
+/// An answer to a query of sessions wasn't asked for, or differs from what was.
+pub fn not_asked() -> Reason
+    ensures { result ≡ not_asked }
+{
+    Reason {
+        cause: Cause::Query,
         code: 7,
         error: None,
     }

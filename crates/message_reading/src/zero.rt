@@ -3,8 +3,7 @@
 ghost use Rattle.std.specs.Prelude.{◌≡◌, List, Ok, IfOk};
 ghost use Rattle.avp_codec.specs.declared.avp.Avp.{Avp};
 ghost use Rattle.control_message.specs.declared.message.Read.TheVariants.{Known};
-ghost use Rattle.control_message.specs.Reading.{kind_of_pairs};
-ghost use Rattle.end_model.specs.Reading.{at_zero, zero_faulty, zero_pairs, zero_read, stopped};
+ghost use Rattle.end_model.specs.Reading.{at_zero, kind_said, zero_faulty, zero_pairs, zero_read, stopped};
 
 use avp_codec::{AvpError, LentAvps};
 use control_message::{
@@ -48,9 +47,9 @@ fn zero_known(message: &Message) -> Addressee
 
 /// What one is for by its kind and by the tunnel id that its pairs tell, as where it has a fault.
 fn zero_by_kind(avps: &LentAvps<'_>) -> Addressee
-    ensures { result ≡ zero_faulty (kind_of_pairs avps.now) avps.now }
+    ensures { result ≡ zero_faulty (kind_said avps.now) avps.now }
 {
-    match kind_of_pairs(avps, Kinds::Base) {
+    match kind_of_pairs(avps, Kinds::Queries) {
         Some(Kind::Sccrq) => match assigned_tunnel(avps) {
             None | Some(0) => Addressee::Nobody { why: Why::Avp },
             Some(remote) => Addressee::Opens { remote },
@@ -69,7 +68,7 @@ fn zero_by_kind(avps: &LentAvps<'_>) -> Addressee
 fn zero_whole(alloc: Global, avps: &LentAvps<'_>) -> Result<Addressee, NoMemory>
     ensures { IfOk result (λ to. to ≡ zero_pairs (Ok avps.now)) }
 {
-    match read_message(alloc, avps, None, Kinds::Base) {
+    match read_message(alloc, avps, None, Kinds::Queries) {
         Ok(Read::Known(message)) => Ok(zero_known(&message)),
         Ok(Read::Ignored { .. }) => Ok(Addressee::Nobody { why: Why::Tunnel }),
         Err(MessageError::NoMemory) => Err(NoMemory),

@@ -217,6 +217,9 @@ module _ (P : End → Type 0) (so : StaysSo P) where
   moved_holds n (move.ResetAnswering m) w holds = enters_holds w n m.tunnel (answer_in (at w.nodes n) m.answer) holds
   moved_holds n (move.Restored m) w holds = holds
   moved_holds n (move.Forgot m) w holds = holds
+  moved_holds n (move.Queried m) w holds = holds
+  moved_holds n (move.AnsweredQuery m) w holds = holds
+  moved_holds n (move.TookAnswer m) w holds = holds
   moved_holds n (move.RecoveryWentOn i) w holds = holds
   moved_holds n (move.RecoveryEnded i) w holds = holds
   moved_holds n (move.Ignored i) w holds = holds

@@ -19,3 +19,4 @@ no_line_is_empty (note.CallUp call tunnel remote who) = omega arith
 no_line_is_empty (note.CallGone call tunnel told) = omega arith
 no_line_is_empty (note.CallGoneBy call tunnel) = omega arith
 no_line_is_empty (note.CallLeft call tunnel) = omega arith
+no_line_is_empty (note.CallMissing call tunnel) = omega arith

@@ -1,5 +1,5 @@
 -- Records of a checkpoint, each told by a note.
-use Rattle.std.proofs.Common.{List, [], ◌∷◌, ◌++◌, refl, Bool, true, false}
+use Rattle.std.proofs.Common.{List, [], ◌∷◌, ◌++◌, map, refl, Bool, true, false}
 use Rattle.std.specs.Prelude.{ℕ, option_to_list, Option}
 use Rattle.std.specs.List.{flat_map}
 use Rattle.wire_base.specs.declared.cause.Cause.{Cause}
@@ -9,7 +9,7 @@ use Rattle.end_model.specs.declared.moves.Move.{Move}
 use Rattle.end_model.specs.declared.moves.Move.TheVariants as move
 use Rattle.end_model.specs.Contents.{records_of, call_down, tunnel_down, mark_by}
 use Rattle.node_notes.specs.declared.note.Note.{Note}
-use Rattle.node_notes.specs.Notes.{note_of, notes_by, causes_of, cause_for, causes_behind, tells_code}
+use Rattle.node_notes.specs.Notes.{note_of, missing, notes_at, notes_by, causes_of, cause_for, causes_behind, tells_code}
 use Rattle.node_notes.specs.Telling.{Tells, AreTold, NoneLeft, ToldBy, ToldLater, Untold, RecordsHaveTheirNotes}
 
 -- where something goes that the checkpoint has, its note tells that
@@ -29,10 +29,17 @@ mark_untold : (b : Bool) (i mark : ℕ) (n : Note) (rs : List Record) (ns : List
 mark_untold true i mark n rs ns later = Untold i mark rs (n ∷ ns) (ToldLater rs n ns later)
 mark_untold false i mark n rs ns later = ToldLater rs n ns later
 
+-- each call that ends by an answer is told by its note
+missing_told : (tunnel : ℕ) (calls : List ℕ) (rs : List Record) (ns : List Note) → AreTold rs ns
+    → AreTold (map (λ s. CallDown s) calls ++ rs) (missing tunnel calls ++ ns)
+missing_told tunnel [] rs ns later = later
+missing_told tunnel (s ∷ ss) rs ns later =
+    ToldBy (CallDown s) (map (λ k. CallDown k) ss ++ rs) _ (missing tunnel ss ++ ns) refl (missing_told tunnel ss rs ns later)
+
 -- what a move leaves is told by its note, before what is told later
 told_first : (m : Move) (cause : Option Cause) (rs : List Record) (ns : List Note) → AreTold rs ns
-    → AreTold (records_of m ++ rs) (option_to_list (note_of m cause) ++ ns)
-unfolding note_of records_of
+    → AreTold (records_of m ++ rs) (notes_at m cause ++ ns)
+unfolding notes_at note_of records_of
 told_first (move.Connected m) cause rs ns later = ToldBy _ rs _ ns (refl, refl, refl) later
 told_first (move.Confirmed m) cause rs ns later = ToldBy _ rs _ ns (refl, refl, refl) later
 told_first (move.FirstUp m) cause rs ns later = ToldBy _ rs _ ns (refl, refl, refl, refl) later
@@ -50,6 +57,7 @@ told_first (move.Forgot m) cause rs ns later = ToldBy (TunnelDown m.tunnel) rs _
 told_first (move.Froze m) cause rs ns later = mark_untold m.marked m.tunnel m.asked _ rs ns later
 told_first (move.ResetAttempting m) cause rs ns later = mark_untold m.marked m.tunnel m.draw _ rs ns later
 told_first (move.ResetAnswering m) cause rs ns later = ToldLater rs _ ns later
+told_first (move.TookAnswer m) cause rs ns later = missing_told m.tunnel m.ended rs ns later
 told_first m cause rs ns later = later
 
 all_told : (causes : List Cause) (ms : List Move) → AreTold (flat_map (λ m. records_of m) ms) (notes_by causes ms)

@@ -1,5 +1,5 @@
 -- What an operator is told of a step, by its moves and by the causes that it told.
-use Rattle.std.specs.Prelude.{ℕ, List, [], ◌∷◌, ◌++◌, Bool, true, false, Option, Some, None, option_to_list}
+use Rattle.std.specs.Prelude.{ℕ, List, [], ◌∷◌, ◌++◌, map, Bool, true, false, Option, Some, None, option_to_list}
 use Rattle.std.specs.List.{flat_map}
 use Rattle.wire_base.specs.declared.cause.Cause.{Cause as CauseOf}
 use Rattle.end_model.specs.declared.out.Out.{Out}
@@ -75,12 +75,20 @@ note_of (move.ResetAttempting m) cause = Some (note.TunnelRecovered m.tunnel)
 note_of (move.ResetAnswering m) cause = Some (note.TunnelRecovered m.tunnel)
 note_of m cause = None
 
+-- by an answer to a query of sessions each call of one that the peer doesn't have ends, and each has a note of its own
+abbrev pub missing : ℕ → List ℕ → List Note
+missing tunnel calls = map (λ s. note.CallMissing s tunnel) calls
+
+unfoldable pub notes_at : Move → Option CauseOf → List Note
+notes_at (move.TookAnswer m) cause = missing m.tunnel m.ended
+notes_at m cause = option_to_list (note_of m cause)
+
 -- ---- what is told of a step
 
 -- by its moves, in their order, each with its cause
 unfoldable pub notes_by : List CauseOf → List Move → List Note
 notes_by causes [] = []
-notes_by causes (m ∷ ms) = option_to_list (note_of m (cause_for (tells_code m) causes)) ++ notes_by (causes_behind (tells_code m) causes) ms
+notes_by causes (m ∷ ms) = notes_at m (cause_for (tells_code m) causes) ++ notes_by (causes_behind (tells_code m) causes) ms
 
 abbrev pub notes_of : List Move → List Out → List Note
 notes_of moves outputs = notes_by (causes_of outputs) moves

@@ -1,5 +1,5 @@
 -- That the right moves make a line, and no other.
-use Rattle.std.specs.Prelude.{◌≡◌, ℕ, List, [], ◌∷◌, replicate, length, filter, Bool, true, false, not, unwrap_or}
+use Rattle.std.specs.Prelude.{◌≡◌, ℕ, ◌+◌, ◌==◌, List, [], ◌∷◌, replicate, length, Bool, true, false, if◌then◌else◌, unwrap_or}
 use Rattle.std.specs.List.{flat_map, list_all}
 use Rattle.session_book.specs.declared.record.Record.{Record}
 use Rattle.session_book.specs.declared.record.Record.TheVariants.{TunnelUp, TunnelDown, CallUp, CallDown, Mark}
@@ -16,7 +16,8 @@ use Rattle.node_notes.specs.Texts.{notes_text}
 
 -- neither a tunnel nor a call of this end comes up or ends, and no tunnel is restored, frozen or recovered: an opening that is declined, a
 -- call that is refused, a letter that is taken, sent or repeated, an acknowledgement, a frame, what only begins, what a recovery tunnel
--- does beside its reset, and a message that a tunnel which is recovered passes over
+-- does beside its reset, a query of sessions, one that is answered, an answer by which no call ends, and a message that a tunnel which is
+-- recovered passes over
 abbrev pub is_quiet : Move → Bool
 is_quiet (move.Opened m) = true
 is_quiet (move.Accepted m) = true
@@ -35,6 +36,9 @@ is_quiet (move.Negotiated m) = true
 is_quiet (move.Counted m) = true
 is_quiet (move.FrameSent m) = true
 is_quiet (move.FrameUp m) = true
+is_quiet (move.Queried m) = true
+is_quiet (move.AnsweredQuery m) = true
+is_quiet (move.TookAnswer m) = length m.ended == 0
 is_quiet (move.RecoveryWentOn tunnel) = true
 is_quiet (move.RecoveryEnded tunnel) = true
 is_quiet (move.Ignored tunnel) = true
@@ -44,9 +48,18 @@ is_quiet m = false
 abbrev pub QuietMovesMakeNoText : Type 0
 QuietMovesMakeNoText = (moves : List Move) (outputs : List Out) → list_all is_quiet moves ≡ true → notes_text moves outputs ≡ []
 
--- and each other move has one line
-abbrev pub OthersHaveOneNoteEach : Type 0
-OthersHaveOneNoteEach = (moves : List Move) (outputs : List Out) → length (notes_of moves outputs) ≡ length (filter (λ m. not (is_quiet m)) moves)
+-- how many lines a move has: an answer to a query of sessions one for each call that it ends, and any other that isn't quiet one
+abbrev pub lines_of : Move → ℕ
+lines_of (move.TookAnswer m) = length m.ended
+lines_of m = if is_quiet m then 0 else 1
+
+abbrev pub lines_in : List Move → ℕ
+lines_in [] = 0
+lines_in (m ∷ ms) = lines_in ms + lines_of m
+
+-- and each move has its lines
+abbrev pub MovesHaveTheirNotes : Type 0
+MovesHaveTheirNotes = (moves : List Move) (outputs : List Out) → length (notes_of moves outputs) ≡ lines_in moves
 
 -- ---- what a checkpoint has
 
@@ -61,6 +74,7 @@ Tells (CallUp b) (note.CallUp call tunnel remote who) =
 Tells (CallDown s) (note.CallGone call tunnel told) = call ≡ s
 Tells (CallDown s) (note.CallGoneBy call tunnel) = call ≡ s
 Tells (CallDown s) (note.CallLeft call tunnel) = call ≡ s
+Tells (CallDown s) (note.CallMissing call tunnel) = call ≡ s
 Tells r n = ⊥
 
 -- the notes tell the records of tunnels and calls that come up or go, in their order, each by a note of its own. The record of a mark has

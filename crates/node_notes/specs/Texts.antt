@@ -95,6 +95,7 @@ note_text (note.CallUp call tunnel remote who) = call_up_text call tunnel remote
 note_text (note.CallGone call tunnel told) = gone_text call tunnel (told_text told)
 note_text (note.CallGoneBy call tunnel) = gone_text call tunnel (codes " by peer")
 note_text (note.CallLeft call tunnel) = gone_text call tunnel []
+note_text (note.CallMissing call tunnel) = gone_text call tunnel (codes " not at peer")
 
 -- the lines of a step
 abbrev pub notes_text : List Move → List Out → List ℕ

@@ -81,6 +81,11 @@ pub enum Note {
         call: u16,
         tunnel: u16,
     },
+    /// A call ended, since the peer answered, behind a recovery, that it doesn't have it. Its id is one of a table's.
+    CallMissing {
+        call: u32,
+        tunnel: u16,
+    },
 }
 
 /// A tunnel that is established.

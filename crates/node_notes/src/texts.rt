@@ -2,13 +2,14 @@
 
 ghost use Rattle.std.specs.Prelude.{◌≡◌, ◌≢◌, ◌<◌, [], ◌++◌, length, OnOk, OnErr, option_to_list};
 ghost use Rattle.std.specs.List.{flat_map};
+ghost use Rattle.node_notes.specs.Notes.{missing, notes_at};
 ghost use Rattle.node_notes.specs.Texts.{tunnel_peer_text, tunnel_text, tunnel_closed_text, told_text, call_up_words, call_up_text, gone_words, gone_text, note_text, notes_text};
 
 use crate::causes::cause_with;
 use crate::note::{Note, Told, note_of};
 use crate::pieces::{push_address, push_count, push_subscriber, push_told, push_word};
 use end_model::{Move, Out};
-use wire_base::{Bytes, NoMemory};
+use wire_base::{Bytes, Cause, NoMemory};
 
 /// A tunnel that is there, in words, and its peer behind them.
 #[tactic(auto, unfolding(crate::specs::Texts::tunnel_peer_text))]
@@ -141,6 +142,7 @@ fn push_note(out: &mut Bytes, note: &Note) -> Result<(), NoMemory>
         Note::CallGone { call, tunnel, told } => push_gone_told(out, *call, *tunnel, told),
         Note::CallGoneBy { call, tunnel } => push_gone(out, *call, *tunnel, b" by peer"),
         Note::CallLeft { call, tunnel } => push_gone(out, u32::from(*call), *tunnel, b""),
+        Note::CallMissing { call, tunnel } => push_gone(out, *call, *tunnel, b" not at peer"),
     }
 }
 
@@ -156,6 +158,31 @@ fn push_if_any(out: &mut Bytes, note: &Option<Note>) -> Result<(), NoMemory>
     }
 }
 
+/// The lines of calls that the peer doesn't have.
+#[tactic(auto, unfolding(crate::specs::Texts::note_text), using(crate::proofs::Lines::no_line_is_empty))]
+fn push_missing(out: &mut Bytes, tunnel: u16, calls: &[u32]) -> Result<(), NoMemory>
+    ensures ok { OnOk result (out.new ≡ out.old ++ flat_map note_text (missing tunnel calls.now)) }
+    ensures err { OnErr result (0 < length (flat_map note_text (missing tunnel calls.now))) }
+{
+    for call in calls {
+        let call = *call;
+        push_note(out, &Note::CallMissing { call, tunnel })?;
+    }
+    Ok(())
+}
+
+/// The lines of a move, with which the step told this cause.
+#[tactic(auto, unfolding(crate::specs::Notes::notes_at))]
+fn push_move(out: &mut Bytes, step: &Move, cause: Option<Cause>) -> Result<(), NoMemory>
+    ensures ok { OnOk result (out.new ≡ out.old ++ flat_map note_text (notes_at step.now cause)) }
+    ensures err { OnErr result (0 < length (flat_map note_text (notes_at step.now cause))) }
+{
+    match step {
+        Move::TookAnswer(took) => push_missing(out, took.tunnel, took.ended.as_slice()),
+        _ => push_if_any(out, &note_of(step, cause)),
+    }
+}
+
 /// Appends the lines that an operator reads of a step, by its moves and its outputs: `docs/notes.md` has their forms. A step by which
 /// neither a tunnel nor a call of the end comes up or ends, and no tunnel is restored, frozen or recovered, has none, and takes no memory.
 /// Where memory is wanting, for a line that there is, a part of the lines may be appended, and whoever asked for them drops them.
@@ -168,7 +195,7 @@ pub fn push_notes(out: &mut Bytes, moves: &[Move], outputs: &[Out]) -> Result<()
     for step in moves {
         let (cause, behind) = cause_with(step, left);
         left = behind;
-        push_if_any(out, &note_of(step, cause))?;
+        push_move(out, step, cause)?;
     }
     Ok(())
 }

@@ -128,6 +128,9 @@ module _ (u : World) where
   moved_like n (move.Quiet i) w like = like
   moved_like n (move.Restored m) w like = like
   moved_like n (move.Forgot m) w like = like
+  moved_like n (move.Queried m) w like = like
+  moved_like n (move.AnsweredQuery m) w like = like
+  moved_like n (move.TookAnswer m) w like = like
   moved_like n (move.RecoveryWentOn i) w like = like
   moved_like n (move.RecoveryEnded i) w like = like
   moved_like n (move.Ignored i) w like = like

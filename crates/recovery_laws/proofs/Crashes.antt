@@ -24,6 +24,7 @@ use Rattle.node_laws.specs.Nodes.{HoldsNode}
 use Rattle.channel_laws.specs.Accounts.{Part, Unmade, Opener, Acceptor, Renewed, History}
 use Rattle.channel_laws.specs.Facts.{IsMade, makes, EndOk, BookOk, NodeOk, Holds}
 use Rattle.channel_laws.proofs.Resting.{RestsBy, fell, fell_rests, epochs_rest, made_rests, makes_rest, rests_but}
+use Rattle.recovery_laws.specs.Queries.{QueryJoined, QueriesJoined}
 use Rattle.recovery_laws.specs.Joined.{phase_in, TunnelJoined, AttemptJoined, AnswerJoined, CallJoined, BookCallJoined, CallsJoined, NodeJoined, live_in, kept_in, AreJoined}
 
 -- ---- runs of the machine
@@ -361,3 +362,17 @@ module _ (w : World) (h : History) (number n : ℕ) (old : Node) (was : at w.nod
     moves = joined.moves ++ Stops n [] ∷ [];
     run = sym (stopped m n) ∙ after_one all_rules joined.moves (Stops n []) m joined.run;
   }
+
+  query_falls : (k i : ℕ) (t : Tunnel) → QueryJoined m k i (h.accounts k i 0).peer t → QueryJoined (falls m n) k i (h.accounts k i 0).peer t
+  unfolding falls goes_down loses
+  query_falls k i t x = record { asks = x.asks; held = x.held }
+
+  -- what tunnels ask for is as it was, where they live on
+  pub crash_queries : QueriesJoined w h m → QueriesJoined v h (falls m n)
+  crash_queries q k i t is current three = ⊎_elim
+      (λ (same : k ≡ n).
+      absurd (none-some t (sym (ap (λ o. live_in o i) (ap (at v.nodes) same ∙ here) ∙ (ap (λ ts. at ts i) new_tunnels ∙ at-none i)) ∙
+      (ap (λ o. live_in o i) is.is ∙ is.there))))
+      (λ (o : k ≡ n → ⊥). query_falls k i t
+      (q k i t (record { node = is.node; is = sym (there_at k o) ∙ is.is; there = is.there }) current three))
+      (same_or_not k n)

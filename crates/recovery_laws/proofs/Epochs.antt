@@ -32,16 +32,16 @@ use Rattle.recovery_laws.specs.Joined.{is_early, phase_by, phase_in, LearnedSo, 
 
 -- ---- names
 
-some_name : (n i : ℕ) → 0 < i → name n i ≢ 0
+pub some_name : (n i : ℕ) → 0 < i → name n i ≢ 0
 unfolding name
 some_name n i lt z = let no : ⊥ = omega (arith, z, lt) in no
 
-same_name : (n i m j : ℕ) → i < 65536 → j < 65536 → name n i ≡ name m j → (n ≡ m) × (i ≡ j)
+pub same_name : (n i m j : ℕ) → i < 65536 → j < 65536 → name n i ≡ name m j → (n ≡ m) × (i ≡ j)
 unfolding name
 same_name n i m j lt less is = (omega (arith, lt, less, is), omega (arith, lt, less, is))
 
 -- where the id is known so is the name
-known_name : (n i : ℕ) → 0 < i → name_of n i ≡ name n i
+pub known_name : (n i : ℕ) → 0 < i → name_of n i ≡ name n i
 known_name n i lt = by (i == 0) refl
   where
     by : (b : Bool) → (i == 0) ≡ b → (if b then 0 else name n i) ≡ name n i
@@ -60,7 +60,8 @@ not_early Acceptor closed late = refl
 not_early Renewed closed late = refl
 
 -- the other end that a tunnel has learned
-learned_so : (accs : Accounts) (n i k j learned : ℕ) → LearnedSo accs n i learned → (accs n i 0).peer ≡ k → (accs n i 0).remote ≡ j → 0 < j
+pub learned_so : (accs : Accounts) (n i k j learned : ℕ) → LearnedSo accs n i learned → (accs n i 0).peer ≡ k → (accs n i 0).remote ≡ j
+    → 0 < j
     → ((accs n i 0).closed ≡ Some 0 → ⊥) → learned ≡ name k j
 learned_so accs n i k j learned (ByLetter is) peer remote lt late =
     is
@@ -71,7 +72,7 @@ learned_so accs n i k j learned (ByRecord u part none some is other back own) pe
 -- ---- modes
 
 -- a tunnel that is neither frozen nor restored is in the state of its table
-current_phase : (n : ℕ) (t : Tunnel) (r : Option Recovering) → is_current (mode_of r) ≡ true → phase_by n t r ≡ phase_of t.control.state
+pub current_phase : (n : ℕ) (t : Tunnel) (r : Option Recovering) → is_current (mode_of r) ≡ true → phase_by n t r ≡ phase_of t.control.state
 current_phase n t None current = refl
 current_phase n t (Some (ByAttempt c)) current = by (is_finished (ByAttempt c)) refl
   where

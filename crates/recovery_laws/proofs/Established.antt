@@ -10,7 +10,7 @@ use Rattle.id_source.specs.declared.IdError.TheVariants.{NoIds}
 use Rattle.tunnel_fsm.specs.declared.table.TunnelState.{TunnelState}
 use Rattle.tunnel_fsm.specs.Rows.{state_number}
 use Rattle.session_book.specs.declared.record.Record.{Record}
-use Rattle.session_book.specs.declared.record.Record.TheVariants.{Ceiling, TunnelUp}
+use Rattle.session_book.specs.declared.record.Record.TheVariants.{Ceiling, TunnelUp, CallDown}
 use Rattle.end_model.specs.declared.event.Event.{Event}
 use Rattle.end_model.specs.declared.moves.Move.{Move}
 use Rattle.end_model.specs.declared.moves.Move.TheVariants as move
@@ -162,6 +162,9 @@ module _ (i : ℕ) (moment : ℕ) (ev : Event) (e x : End) (past : IsPast e i) w
       (changed e x i m.tunnel past h.tunnel _ h.there (ap (λ (z : End). z.tunnels) h.after) (omega (arith, up, k)) refl, tt)
   does_past (move.ResetAttempting m) h = (stays m.tunnel h.tunnel _ h.there _ h.after refl refl refl, tt)
   does_past (move.ResetAnswering m) h = (stays m.tunnel h.tunnel _ h.there _ h.after refl refl refl, tt)
+  does_past (move.Queried m) h = (stays m.tunnel h.tunnel _ h.there _ h.after refl refl refl, tt)
+  does_past (move.AnsweredQuery m) h = (stays m.tunnel h.tunnel _ h.there _ h.after refl refl refl, tt)
+  does_past (move.TookAnswer m) h = (stays m.tunnel h.tunnel _ h.there _ h.after refl refl refl, tt)
   does_past (move.RecoveryWentOn j) h = (stays j h.tunnel _ h.there _ h.after refl refl refl, tt)
   does_past (move.RecoveryEnded j) h = (stays j h.tunnel _ h.there _ h.after refl refl refl, tt)
   does_past (move.Ignored j) h = (stays j h.tunnel _ h.there _ h.after refl refl refl, tt)
@@ -193,6 +196,10 @@ call_not_up i false s = tt
 mark_not_up : (i : ℕ) (b : Bool) (j mark : ℕ) → AllByRecursion (NotUp i) (mark_by b j mark)
 mark_not_up i true j mark = (tt, tt)
 mark_not_up i false j mark = tt
+
+calls_not_up : (i : ℕ) (ss : List ℕ) → AllByRecursion (NotUp i) (map (λ s. CallDown s) ss)
+calls_not_up i [] = tt
+calls_not_up i (s ∷ ss) = (tt, calls_not_up i ss)
 
 records_not_up : (i : ℕ) (m : Move) → NoUp i m → AllByRecursion (NotUp i) (records_of m)
 unfolding records_of
@@ -229,6 +236,9 @@ records_not_up i (move.FrameSent m) apart = tt
 records_not_up i (move.FrameUp m) apart = tt
 records_not_up i (move.Restored m) apart = tt
 records_not_up i (move.ResetAnswering m) apart = tt
+records_not_up i (move.Queried m) apart = tt
+records_not_up i (move.AnsweredQuery m) apart = tt
+records_not_up i (move.TookAnswer m) apart = calls_not_up i m.ended
 records_not_up i (move.RecoveryWentOn j) apart = tt
 records_not_up i (move.RecoveryEnded j) apart = tt
 records_not_up i (move.Ignored j) apart = tt

@@ -1,5 +1,6 @@
 -- A line that makes no step keeps the join with the machine: nothing is done, a node is declared, a stop is armed, or a node falls.
 use Rattle.std.proofs.Common.{◌≡◌, inl, inr, ⊎_elim, ℕ, ◌<◌, Bool, true, false, List, [], refl, sym, ap, ◌∙◌, subst, Option, Some, None, arith}
+use Rattle.std.proofs.lemmas.Bool.{true≢false}
 use Rattle.std.proofs.lemmas.Option.{none-some}
 use Rattle.std.specs.Prelude.{unwrap_or, ◌==◌, ◌&&◌, if◌then◌else◌}
 use Rattle.id_table.specs.Ids.{at, at-none}
@@ -16,15 +17,17 @@ use Rattle.world_model.specs.declared.stop.StopAt.{StopAt}
 use Rattle.world_model.specs.World.{World, Node, Deed, birth_of, birth_in, standing_in, standing_of, epoch_of, answer_in, no_standing, with_node, with_stop, new_node, hand_deed, empty_world}
 use Rattle.epoch_machine.specs.Worlds as machine
 use Rattle.epoch_machine.specs.Worlds.{all_rules}
-use Rattle.epoch_machine.specs.Calls.{lives}
+use Rattle.epoch_machine.specs.Calls.{lives, loses}
 use Rattle.epoch_machine.specs.Moves.{falls, goes_on}
 use Rattle.channel_laws.specs.Accounts.{Account, History, no_history, after, after_deed, history_from}
 use Rattle.channel_laws.specs.Facts.{makes}
 use Rattle.channel_laws.specs.Lines.{AreHands, OfNode, Nothing, ANode, Arms, Falls, Steps, Cuts, Starts}
 use Rattle.channel_laws.proofs.Resting.{same_holds, fall_holds, arm_holds, declared_holds, empty_holds}
+use Rattle.channel_laws.specs.Epochs.{IsLive}
+use Rattle.recovery_laws.specs.Queries.{QueriesJoined, CallsAreNamed}
 use Rattle.recovery_laws.specs.Joined.{ByLetter, TunnelJoined, AnswerJoined, CallsJoined, NodeJoined, live_in, kept_in, AreJoined}
 use Rattle.recovery_laws.specs.Standing.{Stands, StandsFirst, RestingLinesKeep}
-use Rattle.recovery_laws.proofs.Crashes.{crash_joined}
+use Rattle.recovery_laws.proofs.Crashes.{crash_joined, crash_queries}
 
 -- ---- another world, of which the machine's is the same
 
@@ -213,8 +216,50 @@ nothing_done : (ds : List Deed) (h : History) → ds ≡ [] → h ≡ history_fr
 unfolding history_from
 nothing_done ds h none = sym (ap (λ q. history_from q h) none)
 
+-- ---- queries
+
+live_at : (w : World) (n i : ℕ) (t : Tunnel) (o : Option Node) → at w.nodes n ≡ o → live_in o i ≡ Some t → IsLive w n i t
+live_at w n i t None is there = absurd (none-some t there)
+live_at w n i t (Some node) is there = record { node = node; is = is; there = there }
+
+-- another world with the same tunnels
+queries_as : (w v : World) (h : History) (m : machine.World) → ((n i : ℕ) → live_in (at v.nodes n) i ≡ live_in (at w.nodes n) i)
+    → QueriesJoined w h m
+    → QueriesJoined v h m
+queries_as w v h m same q n i t is current three =
+    q n i t (live_at w n i t (at w.nodes n) refl (sym (same n i) ∙ (ap (λ o. live_in o i) is.is ∙ is.there))) current three
+
+put_live : (w : World) (n : ℕ) (o : Option Node) (new : Node) → at w.nodes n ≡ o → ((i : ℕ) → at new.end.tunnels i ≡ live_in o i)
+    → (k i : ℕ)
+    → live_in (at (with_node w n new).nodes k) i ≡ live_in (at w.nodes k) i
+put_live w n o new was live k i = ⊎_elim
+    (λ (e : k ≡ n).
+    ap (λ q. live_in q i) (ap (at (with_node w n new).nodes) e ∙ at_new w.nodes n new) ∙
+    (live i ∙ sym (ap (λ q. live_in q i) (ap (at w.nodes) e ∙ was))))
+    (λ (other : k ≡ n → ⊥). ap (λ q. live_in q i) (at_other w.nodes n new k other))
+    (same_or_not k n)
+
+no_queries : QueriesJoined empty_world no_history machine.empty_world
+no_queries n i t is current three = absurd (none-some is.node (sym (at-none n) ∙ is.is))
+
+-- ---- names of calls
+
+none_named : CallsAreNamed machine.empty_world
+none_named z is = absurd (true≢false (sym is))
+
+fall_named : (m : machine.World) (n : ℕ) → CallsAreNamed m → CallsAreNamed (falls m n)
+unfolding falls loses
+fall_named m n named z is = named z is
+
 pub stands_first : StandsFirst
-stands_first = record { holds = empty_holds; machine = machine.empty_world; joined = empty_joined }
+stands_first = record {
+  holds = empty_holds;
+  machine = machine.empty_world;
+  joined = empty_joined;
+  queries = no_queries;
+  named =
+      none_named;
+}
 
 pub resting_lines_keep : RestingLinesKeep
 resting_lines_keep w h number x nodes s (Nothing same hands none) rests =
@@ -222,24 +267,35 @@ resting_lines_keep w h number x nodes s (Nothing same hands none) rests =
       holds = same_holds w x.world h s.holds same.nodes same.packets;
       machine = s.machine;
       joined = same_joined w x.world h s.machine s.joined same.nodes same.born;
+      queries = queries_as w x.world h s.machine (λ n i. ap (λ q. live_in (at q n) i) same.nodes) s.queries;
+      named = s.named;
     })
 resting_lines_keep w h number x nodes s (ANode n role lns secret hide lt to fresh world done none) rests =
     subst (Stands x.world) (nothing_done x.done h done) (subst (λ v. Stands v h) (sym world) (record {
       holds = declared_holds w h number n role lns secret hide lt to fresh s.holds;
       machine = s.machine;
       joined = declared_joined w h s.machine number n role lns secret hide fresh s.joined;
+      queries = queries_as w (with_node w n (new_node number n role lns secret hide)) h s.machine
+          (put_live w n None (new_node number n role lns secret hide) fresh (λ i. at-none i)) s.queries;
+      named = s.named;
     }))
 resting_lines_keep w h number x nodes s (Arms k stop world done none) rests =
     subst (Stands x.world) (nothing_done x.done h done) (subst (λ v. Stands v h) (sym world) (record {
       holds = arm_holds w h k.node k.old k.was s.holds stop;
       machine = s.machine;
       joined = armed_joined w h s.machine k stop s.joined;
+      queries = queries_as w (with_node w k.node (record k.old { checkpoint = with_stop (Some stop) k.old.checkpoint })) h s.machine
+          (put_live w k.node (Some k.old) (record k.old { checkpoint = with_stop (Some stop) k.old.checkpoint }) k.was
+          (λ i. refl)) s.queries;
+      named = s.named;
     }))
 resting_lines_keep w h number x nodes s (Falls k world done none) rests =
     subst (Stands x.world) (nothing_done x.done h done) (subst (λ v. Stands v h) (sym world) (record {
       holds = fall_holds w h number k.node k.old k.was k.up (nodes k.node k.old k.was) s.holds;
       machine = falls s.machine k.node;
       joined = crash_joined w h number k.node k.old k.was k.up (nodes k.node k.old k.was) s.holds s.machine s.joined;
+      queries = crash_queries w h number k.node k.old k.was k.up (nodes k.node k.old k.was) s.holds s.machine s.joined s.queries;
+      named = fall_named s.machine k.node s.named;
     }))
 resting_lines_keep w h number x nodes s (Steps k) rests = absurd rests
 resting_lines_keep w h number x nodes s (Cuts k) rests = absurd rests

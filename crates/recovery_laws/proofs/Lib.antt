@@ -7,3 +7,13 @@ mod Closed
 mod Epochs
 mod Crashes
 mod Joining
+mod Pairs
+mod Weights
+mod Same
+mod Covered
+mod Answered
+mod Asking
+mod Answers
+mod Hearing
+mod Growing
+mod Left

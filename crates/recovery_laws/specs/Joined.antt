@@ -1,6 +1,6 @@
 -- A world of a schedule, and a world of the abstract machine in which its tunnels, attempts, answers and calls have names. Nodes may be down: what is
 -- in their books then stands in the machine's too.
-use Rattle.std.specs.Prelude.{◌≡◌, ℕ, ◌<◌, ◌≤◌, ◌==◌, ◌||◌, if◌then◌else◌, Bool, true, false, List, map, Option, Some, None, is_some}
+use Rattle.std.specs.Prelude.{◌≡◌, ℕ, ◌<◌, ◌≤◌, ◌==◌, ◌||◌, if◌then◌else◌, Bool, true, false, List, take, Option, Some, None, is_some}
 use Rattle.id_table.specs.Ids.{at}
 use Rattle.session_book.specs.declared.record.BookTunnel.{BookTunnel}
 use Rattle.session_book.specs.declared.record.BookCall.{BookCall}
@@ -16,9 +16,10 @@ use Rattle.epoch_machine.specs.Worlds.{all_rules}
 use Rattle.epoch_machine.specs.Moves.{Move, after}
 use Rattle.epoch_machine.specs.Tunnels.{Tunnels, Phase, Gone, Closed, Attempts, Answers, Linked}
 use Rattle.epoch_machine.specs.Calls.{NoCall, lives}
-use Rattle.session_laws.specs.Names.{name, name_of, phase_of, state_of, letter_of}
+use Rattle.session_laws.specs.Names.{name, name_of, phase_of, state_of}
 use Rattle.channel_laws.specs.Accounts.{Part, Unmade, Opener, Acceptor, Renewed, Account, heeded, History}
-use Rattle.channel_laws.specs.Facts.{Accounts, IsMade, makes}
+use Rattle.channel_laws.specs.Facts.{Accounts, IsMade, partner_in, makes}
+use Rattle.recovery_laws.specs.Queries.{letters_in, questions_in, weigh}
 
 -- ---- names
 
@@ -87,9 +88,12 @@ pub record TunnelJoined (m : machine.World) (w : World) (h : History) (n i : ℕ
   pub entered : m.tunnels.entered (name n i) ≡ epoch_of w n i
   pub epochs : m.tunnels.epochs (name n i) ≡ (standing_of w n i).made
   pub entered_by : (e : ℕ) → m.tunnels.entered_by (name n i) e ≡ answer_name (h.accounts n i e).answer
-  -- its letters of each epoch have the places that their numbers are behind the first one's; what it takes once it is closed isn't counted
-  pub sent : (e : ℕ) → m.channels.sent (name n i) e ≡ map (λ l. letter_of n (h.accounts n i e).peer l) (h.accounts n i e).given
-  pub taken : (e : ℕ) → m.channels.taken (name n i) e ≡ heeded (h.accounts n i e)
+  -- its letters of each epoch are the machine's, in order. It took those of its partner's that it took here; what it takes once it is
+  -- closed isn't counted
+  pub sent : (e : ℕ) → m.channels.sent (name n i) e
+      ≡ letters_in n (h.accounts n i e).peer (questions_in (h.accounts n i e).taken) (h.accounts n i e).given
+  pub taken : (e : ℕ) → m.channels.taken (name n i) e
+      ≡ weigh (take (heeded (h.accounts n i e)) (partner_in h.accounts e (h.accounts n i e)).given)
   pub refused : m.channels.refused (name n i) ≡ (h.accounts n i 0).declined
 
 -- ---- attempts and answers

@@ -1,5 +1,14 @@
 pub mod Gone
 pub mod Marks
+pub mod Queries
 pub mod Joined
 pub mod Epochs
 pub mod Standing
+pub mod Answered
+pub mod Asking
+pub mod Growing
+pub mod Answers
+pub mod Hearing
+pub mod Left
+pub mod Covered
+pub mod Same

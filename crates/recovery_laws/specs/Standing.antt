@@ -5,13 +5,18 @@ use Rattle.epoch_machine.specs.Worlds as machine
 use Rattle.channel_laws.specs.Accounts.{History, no_history, history_from}
 use Rattle.channel_laws.specs.Facts.{NodesHold, Holds}
 use Rattle.channel_laws.specs.Lines.{LineDoes, Nothing, ANode, Arms, Falls, Steps, Cuts, Starts}
+use Rattle.recovery_laws.specs.Queries.{QueriesJoined, CallsAreNamed}
 use Rattle.recovery_laws.specs.Joined.{AreJoined}
 
--- channels, books and packets are as the history says, and the world is joined with one of the machine's
+-- channels, books and packets are as the history says, and the world is joined with one of the machine's, with what its tunnels ask for;
+-- all calls
+-- there have names of sessions
 pub record Stands (w : World) (h : History) : Type 0 where
   pub holds : Holds w h
   pub machine : machine.World
   pub joined : AreJoined w h machine
+  pub queries : QueriesJoined w h machine
+  pub named : CallsAreNamed machine
 
 -- a line in which no node makes a step, or starts
 abbrev pub Rests : {w : World} {number : ℕ} {x : Lined} → LineDoes w number x → Type 0

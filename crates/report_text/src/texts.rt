@@ -5,7 +5,7 @@ ghost use Rattle.std.specs.Fmt.{decimal};
 ghost use Rattle.hex.specs.Hex.{encode_lower};
 ghost use Rattle.end_names.specs.Names.{node_of};
 ghost use Rattle.world_model.specs.Texts.{◌&◌, send_text, side_word, up_text, held_text, gone_text, frame_text, farewell_text, drop_text, cause_text, stopped_text};
-ghost use Rattle.world_model.specs.Run.{mode_word, tunnel_text, call_text, agree_text, down_text, unfit_text, half_space_text, stale_text, store_full_text, refusal_text};
+ghost use Rattle.world_model.specs.Run.{mode_word, query_word, tunnel_text, call_text, agree_text, down_text, unfit_text, half_space_text, stale_text, store_full_text, refusal_text};
 
 use end_model::{Call, Control, Mode, node_of};
 use itoa::Buffer;
@@ -246,8 +246,15 @@ fn mode_word(mode: Mode) -> &'static [u8]
     }
 }
 
-/// A tunnel at the end of a run, with the epoch that it is in, and whether it is current, frozen or restored. No end asks for its calls
-/// after a reset, so each is complete.
+/// Whether an end knows of its sessions, after a reset, which of them its peer has, or is asking, in ASCII.
+fn query_word(complete: bool) -> &'static [u8]
+    ensures { result.now ≡ query_word complete }
+{
+    if complete { b"complete" } else { b"asking" }
+}
+
+/// A tunnel at the end of a run, with the epoch that it is in, whether it is current, frozen or restored, and whether it is complete: of
+/// each session that was established at its last reset it is known whether the peer has it.
 #[tactic(auto, unfolding(world_model::specs::Run::tunnel_text))]
 pub fn push_tunnel(
     out: &mut Bytes,
@@ -255,14 +262,15 @@ pub fn push_tunnel(
     tunnel: &Control,
     epoch: u64,
     mode: Mode,
+    complete: bool,
 ) -> Result<(), NoMemory>
-    ensures { OnOk result (out.new ≡ out.old ++ tunnel_text node tunnel.now epoch mode) }
+    ensures { OnOk result (out.new ≡ out.old ++ tunnel_text node tunnel.now epoch mode complete) }
 {
     push_tunnel_ids(out, node, tunnel)?;
     push_word(out, tunnel.state.word())?;
     push_count(out, epoch)?;
     push_word(out, mode_word(mode))?;
-    push_word(out, b"complete")?;
+    push_word(out, query_word(complete))?;
     out.push_slice(b"\n")
 }
 

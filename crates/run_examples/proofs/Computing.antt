@@ -17,7 +17,9 @@ use Rattle.end_model.specs.Access.{holder, farewell}
 use Rattle.end_names.specs.Names.{host_name, address_of, node_of, subscriber, calling_number}
 use Rattle.end_model.specs.Reading.{message_read, pairs_read, message_in, zero_read, zero_pairs, at_zero, at_tunnel, fault_of_pairs, call_fault_in, tunnel_fault_of_pairs, tunnel_fault_in}
 use Rattle.session_looks.specs.Frames.{carry_known, carry_look}
-use Rattle.end_model.specs.Calls.{call_row, advanced, rung, asked_for}
+use Rattle.end_model.specs.Calls.{call_row, advanced, rung, asked_for, sessions_of}
+use Rattle.end_model.specs.Querying.{queries, queries_by, asks_more, asks_next}
+use Rattle.session_query.specs.Queries.{next_batch}
 use Rattle.end_model.specs.Turn.{with_turn, with_output, with_move, with_change, with_looks_of, with_call, with_new, drops, ends_call, ends_all}
 use Rattle.end_model.specs.Sending.{gives, gives_as, takes_one, reads_nr, sends_letter, sends_now, lets_go, goes_by, lets_all_go, acknowledges, acknowledged_after, settles, takes_plain, ignores}
 use Rattle.end_model.specs.Openings.{with_local, opened, opens_by, opens, accepted, accepts_by, accepts, connected, confirms}
@@ -52,7 +54,7 @@ unfolding takes_id at put_at without u16_bytes u32_bytes is_control has_length h
     start_of end_of header_with header_of control_bytes data_bytes avp_at avps_at checked u16_at u32_at window_at failover_at recovery_at
     suggested_at draw_at response_at opening_at icrq_at icrp_at iccn_at message_by kind_by result_code_at cdn_at host_name address_of node_of
     subscriber calling_number message_read pairs_read message_in zero_read zero_pairs at_zero at_tunnel fault_of_pairs call_fault_in tunnel_fault_of_pairs tunnel_fault_in
-    call_row advanced rung asked_for carry_known carry_look with_turn with_output with_move with_change with_looks_of with_call with_new drops
+    call_row advanced rung asked_for sessions_of queries queries_by asks_more asks_next next_batch carry_known carry_look with_turn with_output with_move with_change with_looks_of with_call with_new drops
     gives gives_as takes_one reads_nr sends_letter sends_now lets_go goes_by lets_all_go acknowledges acknowledged_after settles
     with_local opened opens_by opens accepted accepts_by accepts requested requests requests_at requests_all adds rings_over
     rings_by rings_new rings connected connects confirms takes_plain ignores takes_by takes replied replies first_up first_up_by

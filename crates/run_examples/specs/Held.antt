@@ -8,7 +8,7 @@ use Rattle.control_message.specs.declared.message.Message.TheVariants.{Cdn}
 use Rattle.end_names.specs.declared.role.Role.TheVariants.{Lac}
 use Rattle.world_model.specs.Texts.{HandsUp, Holds, Ends, Causes}
 use Rattle.world_model.specs.Run.{run}
-use Rattle.frame_laws.specs.Past.{Passage, past_of}
+use Rattle.frame_laws.specs.Past.{past_of}
 use Rattle.run_examples.specs.Endings.{connected}
 use Rattle.run_examples.specs.Entries.{entries_since, message}
 

@@ -1,10 +1,9 @@
 -- What the steps of two nodes leave in their checkpoints, while the tunnels and calls of two LACs cross at one LNS.
-use Rattle.std.specs.Prelude.{◌≡◌, ℕ, ◌+◌, ◌==◌, List, [], ◌∷◌, ◌++◌, map, filter, replicate, false, Option, Some, None, Result, Ok, Err}
+use Rattle.std.specs.Prelude.{◌≡◌, ℕ, ◌+◌, ◌==◌, List, [], ◌∷◌, ◌++◌, map, filter, replicate, false, Option, Some, Result, Ok, Err}
 use Rattle.id_table.specs.Ids.{at}
 use Rattle.end_names.specs.Names.{address_of}
 use Rattle.schedule_text.specs.declared.line.Line.{Line}
 use Rattle.schedule_text.specs.declared.line.Line.TheVariants.{DropCall, Close}
-use Rattle.session_book.specs.declared.record.BookTunnel.{BookTunnel}
 use Rattle.session_book.specs.declared.record.Record.{Record}
 use Rattle.session_book.specs.declared.record.Record.TheVariants.{Ceiling, TunnelUp, TunnelDown, CallUp, CallDown}
 use Rattle.end_model.specs.declared.moves.Move.{Move}

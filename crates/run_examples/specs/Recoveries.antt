@@ -52,7 +52,8 @@ pub record FrozenCallsEndSilently : Type 0 where
       ++ codes "end 2 call 1 1 1 established 1\n"
 
 -- Of two calls one is hung up at the LAC before the LNS, which isn't told, crashes. As it starts, its SCCRQ goes out, and an LCP request
--- in each call. The LAC answers with the numbers to go on with: the LNS is to send 3 first and to expect 7. The LNS confirms it.
+-- in each call. The LAC answers with the numbers to go on with: the LNS is to send 3 first and to expect 7. The LNS confirms it, and asks for both
+-- calls, of which the LAC has one.
 abbrev pub day : List Line
 day = open_call ++ Ring 1 2 ∷ Deliver 10 ∷ Deliver 11 ∷ Deliver 12 ∷ Hang 1 2 ∷ Crash 2 ∷ Start 2 ∷ Deliver 16 ∷ Deliver 19 ∷ []
 
@@ -65,3 +66,4 @@ pub record TunnelsAreRecovered : Type 0 where
       ++ codes "17 send 19 1 2 c8020062004100000000000180080000000000028008000000020100800a0000000300000003800a000000076c616331"
       ++ codes "800800000009000280080000000a0008000c0000004c000300007530800c0000004e000000030007000affff000100000001\n"
       ++ codes "18 send 20 2 1 c802001400020000000100018008000000000003\n"
+      ++ codes "18 send 21 2 1 c80200340001000000030007800800000000001580100000004f0000000000010000000180100000004f00000000000200000002\n"

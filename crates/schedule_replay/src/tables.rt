@@ -3,7 +3,7 @@
 ghost use Rattle.std.specs.Prelude.{◌≡◌, ◌++◌, option_map, OnOk, Some};
 ghost use Rattle.std.specs.Option.{option_copied};
 ghost use Rattle.id_table.specs.Ids.{at};
-ghost use Rattle.world_model.specs.Run.{call_table, tunnel_line, node_table, end_table, lns_tunnel, partner_of, are_alike, session_count, agree_with, agree_line, node_agreements, agreement_table};
+ghost use Rattle.world_model.specs.Run.{call_table, tunnel_line, node_table, end_table, lns_tunnel, partner_of, is_resynchronised, are_alike, session_count, agree_with, agree_line, node_agreements, agreement_table};
 ghost use Rattle.world_model.specs.World.{standing_in};
 ghost use Rattle.lac_core.specs.Cores.{tunnel_of};
 
@@ -50,7 +50,14 @@ fn push_tunnel_line(
     ensures { OnOk result (out.new ≡ out.old ++ tunnel_line number node.now id (Some (tunnel_of tunnel.now))) }
 {
     let epoch = node.standing(id).epoch;
-    push_tunnel(out, number, tunnel.control(), epoch, tunnel.mode())?;
+    push_tunnel(
+        out,
+        number,
+        tunnel.control(),
+        epoch,
+        tunnel.mode(),
+        tunnel.is_complete(),
+    )?;
     push_call_table(alloc, out, number, id, &node.births, tunnel.calls())
 }
 
@@ -111,15 +118,22 @@ fn epoch_in(nodes: &Table<Node>, node: u32, tunnel: u16) -> u64
     }
 }
 
-/// Whether a LAC's tunnel and its partner carry messages, are in the same epoch, and agree.
+/// Whether a tunnel carries messages, and knows of its sessions since its last reset.
+fn is_resynchronised(tunnel: &TunnelCore) -> bool
+    ensures { result ≡ is_resynchronised (tunnel_of tunnel.now) }
+{
+    carries(tunnel.mode()) && tunnel.is_complete()
+}
+
+/// Whether a LAC's tunnel and its partner carry messages and ask for no session, are in the same epoch, and agree.
 fn are_alike(nodes: &Table<Node>, number: u32, tunnel: &TunnelCore, partner: &TunnelCore) -> bool
     ensures { result ≡ are_alike nodes.now.entries number (tunnel_of tunnel.now) (tunnel_of partner.now) }
 {
     let (control, other) = (tunnel.control(), partner.control());
     let own = epoch_in(nodes, number, control.local);
     let theirs = epoch_in(nodes, u32::from(node_of(control.peer)), other.local);
-    carries(tunnel.mode())
-        && carries(partner.mode())
+    is_resynchronised(tunnel)
+        && is_resynchronised(partner)
         && own == theirs
         && agree(number, control, other)
 }

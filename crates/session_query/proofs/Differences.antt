@@ -1,9 +1,8 @@
 -- Where an answer differs from what was asked for, and what it tells of.
-use Rattle.std.proofs.Common.{◌≡◌, ℕ, zero, suc, ◌+◌, ◌<◌, ◌≤◌, ◌==◌, Bool, true, false, List, [], ◌∷◌, ◌++◌, length, drop, get_or, slice_get, Option, Some, None, refl, sym, ap, subst, ◌∙◌, append_assoc, add-one, drop-cons, arith}
+use Rattle.std.proofs.Common.{◌≡◌, ℕ, zero, suc, ◌+◌, ◌<◌, ◌≤◌, ◌==◌, Bool, true, false, List, [], ◌∷◌, ◌++◌, length, drop, get_or, slice_get, Some, None, refl, sym, ap, subst, ◌∙◌, append_assoc, add-one, arith}
 use Rattle.std.proofs.Math.Seq.{drop-nil}
-use Rattle.std.proofs.lemmas.List.{append-nil}
 use Rattle.wire_base.specs.declared.pair.Pair.{Pair}
-use Rattle.session_query.specs.Queries.{agrees, difference, gone_in, gone_if, place_agrees, IsFirst}
+use Rattle.session_query.specs.Queries.{agrees, difference, gone_in, gone_if, place_agrees}
 
 -- ---- along the places
 

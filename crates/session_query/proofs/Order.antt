@@ -1,11 +1,11 @@
 -- The pairs are asked for in order.
-use Rattle.std.proofs.Common.{◌≡◌, ℕ, zero, suc, ◌+◌, ◌==◌, Bool, true, false, List, [], ◌∷◌, ◌++◌, length, take, drop, Option, Some, None, Result, Ok, Err, refl, sym, ap, ◌∙◌, append_assoc, arith}
+use Rattle.std.proofs.Common.{◌≡◌, ℕ, zero, suc, ◌+◌, ◌==◌, Bool, true, false, List, [], ◌∷◌, ◌++◌, length, take, Result, Ok, Err, refl, sym, ap, ◌∙◌, append_assoc, arith}
 use Rattle.std.specs.Prelude.{nat_le}
 use Rattle.std.proofs.lemmas.List.{append-nil}
 use Rattle.std.proofs.lemmas.Bool.Decides.{nat_tests}
 use Rattle.std.proofs.Math.Seq.{take-add}
 use Rattle.wire_base.specs.declared.pair.Pair.{Pair}
-use Rattle.session_query.specs.Queries.{Asking, new_query, left_of, batch_if, next_batch, with_batch, told_in, answered, Use, Asks, Hears, heard, used, used_all, pairs_in, asked_by, asked_in, AreAskedInOrder}
+use Rattle.session_query.specs.Queries.{Asking, new_query, left_of, batch_if, next_batch, with_batch, told_in, Use, Asks, Hears, heard, used, used_all, pairs_in, asked_by, asked_in, AreAskedInOrder}
 
 -- the first of a list that are as many as its first few are these
 take_few : (n : ℕ) (xs : List Pair) → take (length (take n xs)) xs ≡ take n xs

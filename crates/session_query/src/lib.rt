@@ -7,7 +7,7 @@ ghost use Rattle.session_query.specs.Queries.{AreAskedInOrder};
 mod answering;
 mod query;
 
-pub use answering::answer_fsq;
+pub use answering::{answer_fsq, answer_to};
 pub use query::{FsrError, Query};
 
 /// A law: over whatever is asked and heard, the batches of a query are its pairs in order, each once.

@@ -1,11 +1,13 @@
 //! What an end asks.
 
-ghost use Rattle.std.specs.Prelude.{◌≡◌, ◌++◌, ◌==◌, [], length, take, option_copied, OnOk, OnErr, IfOk};
-ghost use Rattle.session_query.specs.Queries.{new_query, next_batch, with_batch, agrees, place_agrees, difference, gone_if, gone_in, told_in, answered, is_complete};
+ghost use Rattle.std.specs.Prelude.{◌≡◌, ◌++◌, ◌==◌, [], ◌∷◌, length, take, option_copied, OnOk, OnErr, IfOk, IfSome};
+ghost use Rattle.session_query.specs.Kept.{pairs_kept, AreIds};
+ghost use Rattle.session_query.specs.Queries.{new_query, unanswered, next_batch, with_batch, agrees, place_agrees, difference, gone_if, gone_in, told_in, answered, is_complete};
 ghost use Rattle.session_query.specs.Says.{SaysGone};
 
 use std::alloc::Global;
 use std::marker::Model;
+use std::sync::ArcSlice;
 use wire_base::{NoMemory, Pair, Pairs};
 
 /// How many pairs a message asks for at most.
@@ -21,23 +23,26 @@ pub enum FsrError {
     NoMemory,
 }
 
-/// The sessions that an end asks for, of how many of them it is known whether they are there, and of how many more it is asked.
+/// The sessions that an end asks for, of how many of them it is known whether they are there, and of how many more it is asked. Copies
+/// share the sessions.
 #[derive(Drop)]
 pub struct Query {
-    pairs: Pairs,
+    /// Nothing where there are none.
+    pairs: Option<ArcSlice<Pair>>,
     done: usize,
     asked: usize,
 }
 
 impl Model for Query {
     ghost use Rattle.std.specs.Prelude.{◌+◌, ◌≤◌, length};
+    ghost use Rattle.session_query.specs.Kept.{pairs_kept};
     ghost use Rattle.session_query.specs.Queries.{Asking};
 
     ghost Value = { Asking };
 
-    ghost view = { λ q. record { pairs = q.pairs; done = q.done; asked = q.asked } };
+    ghost view = { λ q. record { pairs = pairs_kept q.pairs; done = q.done; asked = q.asked } };
 
-    ghost invariant = { λ q. q.done + q.asked ≤ length q.pairs };
+    ghost invariant = { λ q. q.done + q.asked ≤ length (pairs_kept q.pairs) };
 }
 
 /// Whether an answer is one to a pair.
@@ -98,6 +103,27 @@ fn gone_in(alloc: Global, asked: &[Pair], answers: &[Pair]) -> Result<Pairs, NoM
     Ok(gone)
 }
 
+/// Appends a session.
+#[tactic(auto, using(crate::specs::Kept::ids_push))]
+fn push_pair(pairs: &mut Pairs, pair: Pair) -> Result<(), NoMemory>
+    ensures ok { OnOk result (pairs.new ≡ pairs.old ++ pair ∷ []) }
+    ensures ids { OnOk result (AreIds pairs.old → AreIds pairs.new) }
+{
+    pairs.push(pair)
+}
+
+/// A copy of sessions.
+fn copied(alloc: Global, pairs: &[Pair]) -> Result<Pairs, NoMemory>
+    ensures same { IfOk result (λ copy. copy ≡ pairs.now) }
+    ensures ids { IfOk result AreIds }
+{
+    let mut copy = Pairs::new(alloc);
+    for pair in pairs {
+        push_pair(&mut copy, *pair)?;
+    }
+    Ok(copy)
+}
+
 /// As many of these as a message asks for at most, from the front.
 #[tactic(auto, using(crate::proofs::Batches::few))]
 fn first_of(pairs: &[Pair]) -> &[Pair]
@@ -106,28 +132,82 @@ fn first_of(pairs: &[Pair]) -> &[Pair]
     &pairs[..pairs.len().min(BATCH)]
 }
 
+/// The sessions, lent.
+fn lent(pairs: &Option<ArcSlice<Pair>>) -> &[Pair]
+    ensures { result.now ≡ pairs_kept pairs.now }
+{
+    match pairs {
+        None => &[],
+        Some(pairs) => pairs.as_slice(),
+    }
+}
+
+/// The sessions, shared.
+fn shared(pairs: &Option<ArcSlice<Pair>>) -> Result<Option<ArcSlice<Pair>>, NoMemory>
+    ensures { IfOk result (λ same. pairs_kept same ≡ pairs_kept pairs.now) }
+{
+    match pairs {
+        None => Ok(None),
+        Some(pairs) => Ok(Some(pairs.clone()?)),
+    }
+}
+
 impl Query {
-    /// A question for these sessions, the sender's ids being its own. It takes no memory.
-    pub fn start(pairs: Pairs) -> Query
-        ensures { result ≡ new_query pairs }
+    /// A question for no session. It takes no memory.
+    pub fn none() -> Query
+        ensures { result ≡ new_query [] }
     {
         Query {
-            pairs,
+            pairs: None,
             done: 0,
             asked: 0,
         }
     }
 
+    /// A question for these sessions, the sender's ids being its own. For none it takes no memory.
+    pub fn start(pairs: Pairs) -> Result<Query, NoMemory>
+        ensures { IfOk result (λ q. q ≡ new_query pairs) }
+    {
+        if pairs.len() == 0 {
+            return Ok(Query::none());
+        }
+        Ok(Query {
+            pairs: Some(ArcSlice::from_vec(pairs.into_vec())?),
+            done: 0,
+            asked: 0,
+        })
+    }
+
+    /// A copy, for which no session is copied: it fails only where too many share them.
+    pub fn copy(&self) -> Result<Query, NoMemory>
+        ensures { IfOk result (λ q. q ≡ self.now) }
+    {
+        Ok(Query {
+            pairs: shared(&self.pairs)?,
+            done: self.done,
+            asked: self.asked,
+        })
+    }
+
+    /// The sessions that it is asked for, and that aren't answered.
+    pub fn unanswered(&self) -> &[Pair]
+        ensures { result.now ≡ unanswered self.now }
+    {
+        &lent(&self.pairs)[self.done..self.done + self.asked]
+    }
+
     /// A copy of the next batch.
     #[tactic(auto, using(crate::proofs::Batches::batch_is, crate::proofs::Batches::none_is, crate::proofs::Batches::over_is))]
     fn copy_batch(&self, alloc: Global) -> Result<Option<Pairs>, NoMemory>
-        ensures { IfOk result (λ batch. batch ≡ next_batch self.now) }
+        ensures batch { IfOk result (λ batch. batch ≡ next_batch self.now) }
+        ensures ids { IfOk result (λ batch. IfSome batch AreIds) }
     {
-        if self.asked > 0 || self.done >= self.pairs.len() {
+        let pairs = lent(&self.pairs);
+        if self.asked > 0 || self.done >= pairs.len() {
             return Ok(None);
         }
-        let left = &self.pairs.as_slice()[self.done..];
-        let batch = Pairs::from_slice(alloc, first_of(left))?;
+        let left = &pairs[self.done..];
+        let batch = copied(alloc, first_of(left))?;
         Ok(Some(batch))
     }
 
@@ -136,6 +216,7 @@ impl Query {
     #[tactic(auto, using(crate::proofs::Batches::batch_fits))]
     pub fn next_fsq(&mut self, alloc: Global) -> Result<Option<Pairs>, NoMemory>
         ensures batch { IfOk result (λ batch. batch ≡ next_batch self.old) }
+        ensures ids { IfOk result (λ batch. IfSome batch AreIds) }
         ensures ok { OnOk result (self.new ≡ with_batch self.old (next_batch self.old)) }
         ensures err { OnErr result (self.new ≡ self.old) }
     {
@@ -159,7 +240,7 @@ impl Query {
         if self.asked == 0 {
             return Err(FsrError::NotAsked { at: 0 });
         }
-        let asked = &self.pairs.as_slice()[self.done..self.done + self.asked];
+        let asked = self.unanswered();
         if let Some(at) = first_difference(asked, answers) {
             return Err(FsrError::NotAsked { at });
         }
@@ -177,6 +258,6 @@ impl Query {
     pub fn complete(&self) -> bool
         ensures { result ≡ is_complete self.now }
     {
-        self.done >= self.pairs.len()
+        self.done >= lent(&self.pairs).len()
     }
 }

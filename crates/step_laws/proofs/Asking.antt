@@ -1,5 +1,5 @@
 -- Where a turn leaves a call that waits in an open tunnel, there is no room for the request.
-use Rattle.std.proofs.Common.{◌≡◌, ◌⊎◌, ⊎_elim, ℕ, Bool, true, false, List, [], ◌∷◌, ◌++◌, length, refl, sym, ap, ◌∙◌, subst, Option, Some, None, Result, Ok, Err, arith}
+use Rattle.std.proofs.Common.{◌≡◌, ◌⊎◌, ⊎_elim, ℕ, Bool, true, false, List, [], ◌∷◌, ◌++◌, length, refl, sym, ap, ◌∙◌, subst, Option, Some, None, Result, Ok, Err, arith, map}
 use Rattle.std.proofs.lemmas.Bool.{eqb-true, eqb-false, true≢false, ltb-false}
 use Rattle.std.proofs.lemmas.Option.{none-some}
 use Rattle.std.specs.Prelude.{◌&&◌, ◌==◌, nat_lt, unwrap_or, not}
@@ -12,6 +12,7 @@ use Rattle.wire_base.specs.declared.why.Why.TheVariants as why
 use Rattle.wire_base.specs.declared.cause.Cause.{Cause as CauseOf}
 use Rattle.wire_base.specs.declared.cause.Cause.TheVariants as cause
 use Rattle.wire_base.specs.declared.letter.Letter.{Letter}
+use Rattle.wire_base.specs.declared.pair.Pair.{Pair}
 use Rattle.l2tp_header.specs.declared.header.Header.{Header}
 use Rattle.l2tp_header.specs.declared.header.HeaderError.{HeaderError}
 use Rattle.control_message.specs.declared.message.Message.{Message}
@@ -45,7 +46,7 @@ use Rattle.end_model.specs.declared.moves.Move.TheVariants as move
 use Rattle.session_looks.specs.Frames.{header_why}
 use Rattle.l2tp_header.specs.Reading.{body_of}
 use Rattle.end_model.specs.Reading.{message_in, CallFault, call_fault_in, TunnelFault, tunnel_fault_in}
-use Rattle.end_model.specs.Calls.{row_for, row_of_none, advanced, with_numbers, counted, rung, asked_for, is_request, is_connection, is_up, are_too_many, is_clean_up, is_short, is_long}
+use Rattle.end_model.specs.Calls.{row_for, row_of_none, advanced, with_numbers, counted, rung, asked_for, is_request, is_connection, is_up, are_too_many, is_clean_up, is_short, is_long, sessions_of}
 use Rattle.end_model.specs.Stopping.{rejects, rejected, shut, shuts, closed_told, closes_tunnel, closed_by, shuts_by, clears}
 use Rattle.end_model.specs.Messages.{connected_reason, connected_event, event_by, opening_reason, Told, tells_id, told_by}
 use Rattle.end_model.specs.Tunnels.{Turn, is_current}
@@ -53,10 +54,10 @@ use Rattle.end_model.specs.Turn.{with_output, with_move, with_change, with_call,
 use Rattle.end_model.specs.Openings.{connected, confirms}
 use Rattle.end_model.specs.Events.{with_calls}
 use Rattle.end_model.specs.Ringing.{requested, requests, requests_at, requests_all, adds, rings_over, rings_by, rings_within, rings}
-use Rattle.end_model.specs.Hearing.{connects, takes_by, takes, about_call, in_call, hears, hears_faulty, hears_said, hears_next, hears_letter, is_duplicate, in_tunnel, hears_control, hears_datagram, ignores_all}
+use Rattle.end_model.specs.Hearing.{connects, takes_by, takes, about_call, in_call, hears, hears_faulty, hears_said, hears_next, hears_letter, is_duplicate, in_tunnel, hears_control, hears_datagram, ignores_all, in_query, heeds_answer}
 use Rattle.end_model.specs.Sending.{gives, gives_as, settles, takes_one, reads_nr, takes_plain, ignores}
 use Rattle.end_model.specs.Channels.{has_room, may_take, counts_taken}
-use Rattle.end_model.specs.Reasons.{Reason, reason, out_of_state, fault_reason, out_of_order}
+use Rattle.end_model.specs.Reasons.{Reason, reason, out_of_state, fault_reason, out_of_order, not_asked}
 use Rattle.end_model.specs.Refusing.{refused, refuses, of_no_call, answers_by}
 use Rattle.end_model.specs.Closing.{end_silent, end_told, ends_by, closes}
 use Rattle.end_model.specs.Asking.{granted, asked_by, replied, replies, session_named}
@@ -66,12 +67,16 @@ use Rattle.end_model.specs.Connecting.{first_up, first_up_by, second_up, connect
 use Rattle.end_model.specs.Links.{link_env, with_link, is_passing}
 use Rattle.end_model.specs.Linking.{sends_frames, negotiated}
 use Rattle.end_model.specs.Frames.{sends_frame, counts, carried, carries}
+use Rattle.end_model.specs.Querying.{answered_query, answers_query, asks_more, ended_of, hears_answer, queries, queries_by, told_at, took_answer}
 use Rattle.step_laws.specs.Letters.{Among}
+use Rattle.session_query.specs.Queries.{next_batch, answers_to}
 use Rattle.step_laws.proofs.Lists.{branch, and_left, found_among, with_calls-more}
 use Rattle.step_laws.proofs.States.{requested_state, connected_state, up_state}
 use Rattle.step_laws.proofs.Keeping.{settled_keeps, more_full}
-use Rattle.step_laws.proofs.Shutting.{all_ended_is, none_left}
+use Rattle.step_laws.proofs.Shutting.{all_ended_is, none_left, ended}
 pub use Rattle.step_laws.proofs.WaitingCalls.{Waits, other_state, replied_state, opening_row, Busy, Idle}
+use Rattle.step_laws.specs.Queries.{without_each}
+use Rattle.step_laws.proofs.Queries.{ascends_each, ended_each, found_each}
 
 module _ (role : Role) (calls : List (ℕ × Call)) where
   abbrev There : Turn → ℕ → Call → Type 0
@@ -574,6 +579,42 @@ module _ (role : Role) (calls : List (ℕ × Call)) where
     in_faulty_asked session f t b =
         branch Asked (state_number t.control.state == 3) _ _ (λ is. faulty_asked session f.kind f.cause f.session t b) (λ other. ignored why.Session t b)
 
+    -- ---- questions and answers
+
+    query_asked : (pairs : List Pair) (t : Turn) → Begins t → Asked (in_query calls pairs t)
+    unfolding in_query answers_query answered_query gives with_move takes_one
+    query_asked pairs t b =
+        branch Asked (state_number t.control.state == 3) _ _
+        (λ is. branch Asked (has_room t.control) _ _
+        (λ may. same t (answered_query pairs (answers_to (sessions_of calls) pairs) t) refl refl b) (λ full. dropped why.Queue t b))
+        (λ other. plain t b)
+
+    took_rests : (answers gone : List Pair) (t : Turn) → Begins t → Rests (took_answer calls answers gone t)
+    unfolding took_answer with_move takes_one
+    took_rests answers gone t b =
+        let ss = ended_of calls gone in
+        let left : with_calls (t.changed ++ map ended ss) calls ≡ without_each ss calls = rw b.none (ended_each ss calls) in
+        rw (all_ended_is ss _) (record {
+          none = λ is_open s c there waits. b.asked is_open s c
+              (found_each ss calls s c order (subst (λ xs. at xs s ≡ Some c) left there)) waits;
+          ascends = subst Ascends (sym left) (ascends_each ss calls order);
+        })
+
+    by_asked : (o : Option (List Pair)) (t : Turn) → Rests t → Asked (queries_by o t)
+    unfolding queries_by queries gives drops with_output with_move
+    by_asked None t r = rests_asked t t refl refl r
+    by_asked (Some pairs) t r =
+        branch Asked (has_room t.control) _ _ (λ may. rests_asked t (queries pairs t) refl refl r)
+        (λ full. rests_asked t (drops why.Queue t) refl refl r)
+
+    answer_asked : (c : Config) (answers : List Pair) (r : Result (List Pair) ℕ) (t : Turn) → Begins t
+        → Asked (heeds_answer role c calls answers r t)
+    unfolding heeds_answer hears_answer asks_more
+    answer_asked c answers (Ok gone) t b =
+        let u = took_answer calls answers gone t in
+        by_asked (next_batch u.query) u (took_rests answers gone t b)
+    answer_asked c answers (Err place) t b = takes_asked c not_asked event.AdminClose (tells_id 0) t b
+
     -- ---- control messages
 
     hears_asked : (c : Config) (session : ℕ) (m : Message) (t : Turn) → Begins t → Asked (hears role c calls session m t)
@@ -591,8 +632,8 @@ module _ (role : Role) (calls : List (ℕ × Call)) where
     hears_asked c session Occn t b = plain t b
     hears_asked c session Wen t b = plain t b
     hears_asked c session Sli t b = plain t b
-    hears_asked c session (Fsq sessions) t b = plain t b
-    hears_asked c session (Fsr sessions) t b = plain t b
+    hears_asked c session (Fsq sessions) t b = query_asked sessions t b
+    hears_asked c session (Fsr answers) t b = answer_asked c answers (told_at t.control.state t.query answers) t b
     hears_asked c session (Cdn remote code error) t b = in_call_asked session (Cdn remote code error) t b
     hears_asked c session (Icrq remote serial calling) t b = in_call_asked session (Icrq remote serial calling) t b
     hears_asked c session (Icrp remote) t b = in_call_asked session (Icrp remote) t b

@@ -5,7 +5,7 @@ use Rattle.std.proofs.lemmas.Option.{none-some}
 use Rattle.std.specs.Prelude.{◌==◌, ◌&&◌, not}
 use Rattle.wire_base.specs.Answers.{◌>>=◌}
 use Rattle.avp_codec.specs.declared.avp.Avp.{Avp}
-use Rattle.control_message.specs.declared.kind.Kinds.TheVariants.{Base}
+use Rattle.control_message.specs.declared.kind.Kinds.TheVariants.{Queries}
 use Rattle.control_message.specs.declared.kind.Kind.{Kind}
 use Rattle.control_message.specs.declared.kind.Kind.TheVariants as kind
 use Rattle.control_message.specs.declared.kind.Shape.{Shape}
@@ -21,7 +21,8 @@ use Rattle.control_message.specs.declared.message.Read.TheVariants.{Known, Ignor
 use Rattle.control_message.specs.declared.message.MessageError.{MessageError}
 use Rattle.control_message.specs.declared.message.MessageError.TheVariants.{NoType, UnknownType, HiddenWithoutVector, BadValue}
 use Rattle.control_message.specs.Table.{kind_of, shape_of, uses_draw, fits}
-use Rattle.control_message.specs.Reading.{counts_once, response_at, suggested_at, draw_value, draw_read, draw_in, draw_at, is_listed, is_recognised, is_at, first, first_draw, has_vector, checked_value, checked_use, checked_draw, checked, checked_all, value_in, value_at, number_in, u16_at, u32_at, window_in, window_at, failover_value, failover_read, failover_in, failover_at, recovery_value, recovery_read, recovery_in, recovery_at, opening_at, icrq_at, icrp_at, iccn_at, result_code_at, stop_ccn_at, ocrq_at, cdn_at, wen_at, sli_at, of_kind, type_number, kind_told, kind_of_pairs, of_type, with_type, message_of, message_by, kind_by}
+use Rattle.control_message.specs.Reading.{counts_once, response_at, suggested_at, draw_value, draw_read, draw_in, draw_at, is_listed, is_recognised, is_at, first, first_draw, has_vector, checked_value, checked_use, checked_draw, checked, checked_all, value_in, value_at, number_in, u16_at, u32_at, window_in, window_at, failover_value, failover_read, failover_in, failover_at, recovery_value, recovery_read, recovery_in, recovery_at, opening_at, icrq_at, icrp_at, iccn_at, result_code_at, stop_ccn_at, ocrq_at, cdn_at, wen_at, sli_at, of_kind, type_number, kind_told, of_type, with_type, message_by, kind_by}
+use Rattle.end_model.specs.Reading.{kind_said, message_said}
 use Rattle.step_laws.proofs.Lists.{branch, and_left, and_right}
 
 -- ---- a reading in steps
@@ -200,11 +201,11 @@ module _ (avps : List Avp) where
   type_assigns n mandatory (Some k) =
       gives_after ReadAssigns (checked_all k [] avps) _ (λ u checks. known_assigns (of_kind k avps) (kind_assigns k u checks))
 
-  told_assigns : (o : Option Avp) → Gives ReadAssigns (with_type Base o avps)
+  told_assigns : (o : Option Avp) → Gives ReadAssigns (with_type Queries o avps)
   told_assigns None = tt
-  told_assigns (Some a) = gives_after ReadAssigns (type_number a) _ (λ n is. type_assigns n a.mandatory (kind_of Base n))
+  told_assigns (Some a) = gives_after ReadAssigns (type_number a) _ (λ n is. type_assigns n a.mandatory (kind_of Queries n))
 
-  pub message_assigns : (m : Message) → message_of avps ≡ Ok (Known m) → AssignsSome m
+  pub message_assigns : (m : Message) → message_said avps ≡ Ok (Known m) → AssignsSome m
   unfolding message_by
   message_assigns m is = subst (Gives ReadAssigns) is (told_assigns (first 0 avps))
 
@@ -311,19 +312,19 @@ module _ (avps : List Avp) where
       fails_after IsInner (checked_all kind.Sccrq [] avps) _ (all_fail kind.Sccrq [] avps)
       (λ u. fails_after IsInner (of_kind kind.Sccrq avps) _ sccrq_fails (λ m. tt))
 
-  pub inner_fault : (x : MessageError) → kind_of_pairs avps ≡ Some kind.Sccrq → message_of avps ≡ Err x → IsInner x
+  pub inner_fault : (x : MessageError) → kind_said avps ≡ Some kind.Sccrq → message_said avps ≡ Err x → IsInner x
   unfolding kind_by message_by
   inner_fault x named failed = told (first 0 avps) named failed
     where
       numbered : (a : Avp) (n : ℕ) (o : Option Kind) → o ≡ Some kind.Sccrq → of_type n a.mandatory o avps ≡ Err x → IsInner x
       numbered a n o is e = subst (Fails IsInner) e (rw is (known_fails n a.mandatory))
 
-      typed : (a : Avp) (r : Result ℕ MessageError) → type_number a ≡ r → kind_told Base (Some a) ≡ Some kind.Sccrq
-          → with_type Base (Some a) avps ≡ Err x → IsInner x
-      typed a (Ok n) is named e = numbered a n (kind_of Base n) (rw is at named) (rw is at e)
+      typed : (a : Avp) (r : Result ℕ MessageError) → type_number a ≡ r → kind_told Queries (Some a) ≡ Some kind.Sccrq
+          → with_type Queries (Some a) avps ≡ Err x → IsInner x
+      typed a (Ok n) is named e = numbered a n (kind_of Queries n) (rw is at named) (rw is at e)
       typed a (Err y) is named e = absurd (let f : None ≡ Some kind.Sccrq = rw is at named in cc)
 
-      told : (o : Option Avp) → kind_told Base o ≡ Some kind.Sccrq → with_type Base o avps ≡ Err x → IsInner x
+      told : (o : Option Avp) → kind_told Queries o ≡ Some kind.Sccrq → with_type Queries o avps ≡ Err x → IsInner x
       told None named e = absurd cc
       told (Some a) named e = typed a (type_number a) refl named e
 
@@ -344,24 +345,24 @@ module _ (avps : List Avp) where
         fails_after IsInner (checked_all k [] avps) _ (all_fail k [] avps)
         (λ u. fails_after IsInner (of_kind k avps) _ inside (λ m. tt))
 
-    inner_of : (x : MessageError) → kind_of_pairs avps ≡ Some k → message_of avps ≡ Err x → IsInner x
+    inner_of : (x : MessageError) → kind_said avps ≡ Some k → message_said avps ≡ Err x → IsInner x
     unfolding kind_by message_by
     inner_of x named failed = told (first 0 avps) named failed
       where
         numbered : (a : Avp) (n : ℕ) (o : Option Kind) → o ≡ Some k → of_type n a.mandatory o avps ≡ Err x → IsInner x
         numbered a n o is e = subst (Fails IsInner) e (rw is (kind_fails n a.mandatory))
 
-        typed : (a : Avp) (r : Result ℕ MessageError) → type_number a ≡ r → kind_told Base (Some a) ≡ Some k
-            → with_type Base (Some a) avps ≡ Err x → IsInner x
-        typed a (Ok n) is named e = numbered a n (kind_of Base n) (rw is at named) (rw is at e)
+        typed : (a : Avp) (r : Result ℕ MessageError) → type_number a ≡ r → kind_told Queries (Some a) ≡ Some k
+            → with_type Queries (Some a) avps ≡ Err x → IsInner x
+        typed a (Ok n) is named e = numbered a n (kind_of Queries n) (rw is at named) (rw is at e)
         typed a (Err y) is named e = absurd (let f : None ≡ Some k = rw is at named in cc)
 
-        told : (o : Option Avp) → kind_told Base o ≡ Some k → with_type Base o avps ≡ Err x → IsInner x
+        told : (o : Option Avp) → kind_told Queries o ≡ Some k → with_type Queries o avps ≡ Err x → IsInner x
         told None named e = absurd cc
         told (Some a) named e = typed a (type_number a) refl named e
 
-  pub inner_icrq : (x : MessageError) → kind_of_pairs avps ≡ Some kind.Icrq → message_of avps ≡ Err x → IsInner x
+  pub inner_icrq : (x : MessageError) → kind_said avps ≡ Some kind.Icrq → message_said avps ≡ Err x → IsInner x
   inner_icrq x named failed = inner_of kind.Icrq icrq_fails x named failed
 
-  pub inner_ocrq : (x : MessageError) → kind_of_pairs avps ≡ Some kind.Ocrq → message_of avps ≡ Err x → IsInner x
+  pub inner_ocrq : (x : MessageError) → kind_said avps ≡ Some kind.Ocrq → message_said avps ≡ Err x → IsInner x
   inner_ocrq x named failed = inner_of kind.Ocrq ocrq_fails x named failed

@@ -1,5 +1,5 @@
 -- What time does to a recovery tunnel leaves its tunnel as it is, or removes it; what it hears leaves its state and its calls, or removes it.
-use Rattle.std.proofs.Common.{◌≡◌, ◌⊎◌, inl, inr, ⊎_elim, ℕ, true, List, length, refl, ◌∙◌, ap, Option, Some, None, zero, suc, [], Result, Ok, Err}
+use Rattle.std.proofs.Common.{◌≡◌, ◌⊎◌, inl, inr, ⊎_elim, ℕ, true, List, length, refl, ◌∙◌, ap, Option, Some, None, zero, suc, [], Result, Ok, Err, false}
 use Rattle.std.specs.Prelude.{nat_le, ◌==◌, unwrap_or, nat_lt}
 use Rattle.wire_base.specs.declared.letter.Letter.{Letter}
 use Rattle.send_window.specs.declared.window.Tick.{Tick as Due}
@@ -35,6 +35,12 @@ use Rattle.end_model.specs.Reading.{message_in}
 use Rattle.step_laws.specs.Moves.{finished_of}
 use Rattle.step_laws.proofs.Freezing.{unfinished_is}
 use Rattle.step_laws.proofs.Finished.{own_entries, left_finished}
+use Rattle.step_laws.proofs.Keeping.{settled_keeps}
+use Rattle.end_model.specs.Channels.{has_room}
+use Rattle.end_model.specs.Querying.{asks_more, asks_next, queries, queries_by}
+use Rattle.end_model.specs.Sending.{gives, settles}
+use Rattle.session_query.specs.Queries.{next_batch}
+use Rattle.wire_base.specs.declared.pair.Pair.{Pair}
 
 -- the tunnel and its calls are as they were
 pub record IsLeft (t u : Turn) : Type 0 where
@@ -111,16 +117,39 @@ goes_held r t u h = let k = goes_left r u in record { state = ap (λ (c : Contro
 held_same : (t : Turn) → IsHeld t t
 held_same t = record { state = refl; changed = refl }
 
-reset_held : (letters : List Letter) (s : Suggested) (draw : ℕ) (r : Recovering) (t : Turn) → IsHeld t (resets_by letters s draw r t)
+reset_held : (letters : List Letter) (calls : List (ℕ × Call)) (s : Suggested) (draw : ℕ) (r : Recovering) (t : Turn)
+    → IsHeld t (resets_by letters calls s draw r t)
 unfolding resets_by resets with_move
-reset_held letters s draw (ByAttempt c) t = record { state = refl; changed = refl }
-reset_held letters s draw (ByAnswer a) t = record { state = refl; changed = refl }
+reset_held letters calls s draw (ByAttempt c) t = record { state = refl; changed = refl }
+reset_held letters calls s draw (ByAnswer a) t = record { state = refl; changed = refl }
+
+settled_held : (letters : List Letter) (t : Turn) → IsHeld t (settles false letters t)
+settled_held letters t = let k = settled_keeps false letters t in record { state = k.state; changed = k.changed }
+
+held_on : (t u v : Turn) → IsHeld t u → IsHeld u v → IsHeld t v
+held_on t u v h k = record { state = k.state ∙ h.state; changed = k.changed ∙ h.changed }
+
+-- asking for sessions changes neither
+asked_held : (o : Option (List Pair)) (t : Turn) → IsHeld t (queries_by o t)
+unfolding queries_by queries gives drops with_output with_move
+asked_held None t = held_same t
+asked_held (Some pairs) t =
+    branch (IsHeld t) (has_room t.control) _ _ (λ may. record { state = refl; changed = refl })
+    (λ full. record { state = refl; changed = refl })
+
+next_held : (letters : List Letter) (t : Turn) → IsHeld t (asks_next letters t)
+unfolding asks_next asks_more
+next_held letters t =
+    let u = queries_by (next_batch t.query) t in
+    held_on t u _ (asked_held (next_batch t.query) t) (settled_held letters u)
 
 follows_heard : (letters : List Letter) (calls : List (ℕ × Call)) (p : Progress) (r : Recovering) (t : Turn) → IsHeard t (follows letters calls p r t).turn
 unfolding follows
 follows_heard letters calls progress.Waiting r t = inr (goes_held r t t (held_same t))
 follows_heard letters calls (progress.Reset s draw) r t =
-    inr (goes_held r t (resets_by letters s (unwrap_or draw 0) r t) (reset_held letters s (unwrap_or draw 0) r t))
+    let u = resets_by letters calls s (unwrap_or draw 0) r t in
+    let gone = goes_held r t u (reset_held letters calls s (unwrap_or draw 0) r t) in
+    inr (held_on t (goes r u).turn _ gone (next_held letters (goes r u).turn))
 follows_heard letters calls (progress.Given cause) r t = inl (is_cleared calls (goes r (with_output (Refused cause) t)).turn)
 follows_heard letters calls progress.Cleared r t = inl (is_cleared calls t)
 

@@ -9,9 +9,9 @@ use Rattle.control_message.specs.declared.kind.Kind.TheVariants as kind
 use Rattle.control_message.specs.declared.message.Read.{Read}
 use Rattle.control_message.specs.declared.message.MessageError.{MessageError}
 use Rattle.control_message.specs.declared.message.MessageError.TheVariants.{NoType, UnknownType, UnknownMandatory, HiddenWithoutVector, BadValue, Missing, NoMemory}
-use Rattle.control_message.specs.Reading.{message_of, kind_of_pairs, plain_short}
+use Rattle.control_message.specs.Reading.{plain_short}
 use Rattle.tunnel_fsm.specs.declared.table.TunnelEvent.TheVariants as event
-use Rattle.end_model.specs.Reading.{message_read, pairs_read, message_in, is_for_call, with_cause, fault_of_kind, fault_read, fault_of_pairs, CallFault, call_fault_in, TunnelFault, closing, closing_by, tunnel_fault_of_kind, tunnel_fault_read, tunnel_fault_of_pairs, tunnel_fault_in}
+use Rattle.end_model.specs.Reading.{message_read, pairs_read, message_in, is_for_call, with_cause, fault_of_kind, fault_read, fault_of_pairs, CallFault, call_fault_in, TunnelFault, closing, closing_by, tunnel_fault_of_kind, tunnel_fault_read, tunnel_fault_of_pairs, tunnel_fault_in, kind_said, message_said}
 use Rattle.step_laws.specs.Answers.{AsksForCall}
 use Rattle.step_laws.proofs.Assigned.{IsInner, inner_icrq, inner_ocrq}
 
@@ -24,7 +24,7 @@ read_unread avps (Err x) f h = refl
 
 pairs_unread : (r : Result (List Avp) AvpError) (f : CallFault) → fault_of_pairs r ≡ Some f → pairs_read r ≡ Err why.Avp
 unfolding fault_of_pairs pairs_read
-pairs_unread (Ok avps) f h = read_unread avps (message_of avps) f h
+pairs_unread (Ok avps) f h = read_unread avps (message_said avps) f h
 pairs_unread (Err x) f h = refl
 
 -- it can't be read
@@ -61,7 +61,7 @@ module _ (avps : List Avp) (g : TunnelFault) where
   icrq_says (Missing n) inner h = icrq_value (plain_short 14 avps) h
   icrq_says NoMemory inner h = absurd cc
 
-  icrq_read : (x : MessageError) → IsInner x → kind_of_pairs avps ≡ Some kind.Icrq → tunnel_fault_read avps (Err x) ≡ Some g
+  icrq_read : (x : MessageError) → IsInner x → kind_said avps ≡ Some kind.Icrq → tunnel_fault_read avps (Err x) ≡ Some g
       → (fault_read avps (Err x) ≡ None) × IsOfRequest g
   icrq_read NoType inner is h = absurd inner
   icrq_read (UnknownType n) inner is h = absurd inner
@@ -87,7 +87,7 @@ module _ (avps : List Avp) (g : TunnelFault) where
   ocrq_says (Missing n) inner h = ocrq_value (plain_short 14 avps) h
   ocrq_says NoMemory inner h = absurd cc
 
-  ocrq_read : (x : MessageError) → IsInner x → kind_of_pairs avps ≡ Some kind.Ocrq → tunnel_fault_read avps (Err x) ≡ Some g
+  ocrq_read : (x : MessageError) → IsInner x → kind_said avps ≡ Some kind.Ocrq → tunnel_fault_read avps (Err x) ≡ Some g
       → (fault_read avps (Err x) ≡ None) × IsOfRequest g
   ocrq_read NoType inner is h = absurd inner
   ocrq_read (UnknownType n) inner is h = absurd inner
@@ -97,21 +97,21 @@ module _ (avps : List Avp) (g : TunnelFault) where
   ocrq_read (Missing n) inner is h = rw is (ocrq_says (Missing n) inner (rw is at h))
   ocrq_read NoMemory inner is h = rw is (ocrq_says NoMemory inner (rw is at h))
 
-  asked_read : (r : Result Read MessageError) → message_of avps ≡ r → AsksForCall (kind_of_pairs avps) → tunnel_fault_read avps r ≡ Some g
+  asked_read : (r : Result Read MessageError) → message_said avps ≡ r → AsksForCall (kind_said avps) → tunnel_fault_read avps r ≡ Some g
       → (message_read r ≡ Err why.Avp) × ((fault_read avps r ≡ None) × IsOfRequest g)
   unfolding message_read
   asked_read (Ok r) is asks h = absurd cc
   asked_read (Err x) is asks h = (
     refl,
     ⊎_elim
-        (λ (a : kind_of_pairs avps ≡ Some kind.Icrq). icrq_read x (inner_icrq avps x a is) a h)
-        (λ (a : kind_of_pairs avps ≡ Some kind.Ocrq). ocrq_read x (inner_ocrq avps x a is) a h)
+        (λ (a : kind_said avps ≡ Some kind.Icrq). icrq_read x (inner_icrq avps x a is) a h)
+        (λ (a : kind_said avps ≡ Some kind.Ocrq). ocrq_read x (inner_ocrq avps x a is) a h)
         asks,
   )
 
-pub too_faulty : (body : List ℕ) (avps : List Avp) (g : TunnelFault) → avps_of body ≡ Ok avps → AsksForCall (kind_of_pairs avps)
+pub too_faulty : (body : List ℕ) (avps : List Avp) (g : TunnelFault) → avps_of body ≡ Ok avps → AsksForCall (kind_said avps)
     → tunnel_fault_in body ≡ Some g → IsUnanswerable body g
 unfolding message_in pairs_read call_fault_in fault_of_pairs tunnel_fault_in tunnel_fault_of_pairs
 too_faulty body avps g pairs asks h =
-    let both = asked_read avps g (message_of avps) refl asks (rw pairs at h) in
+    let both = asked_read avps g (message_said avps) refl asks (rw pairs at h) in
     record { unread = rw pairs both.0; no_call = rw pairs both.1.0; closes = both.1.1 }

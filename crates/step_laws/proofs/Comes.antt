@@ -87,7 +87,7 @@ module _ (e : End) (moment : ℕ) (ev : Event) (letters : List Letter) (calls : 
     pub changed : t.changed ≡ []
     -- the tunnel before the step
     pub first : Control
-    pub there : at e.tunnels i ≡ Some (record (new_tunnel first) { letters = letters; calls = calls; recovery = recovery })
+    pub there : at e.tunnels i ≡ Some (record (new_tunnel first) { letters = letters; calls = calls; recovery = recovery; query = t.query })
     pub local : first.local ≡ t.control.local
     pub remote : first.remote ≡ t.control.remote
     pub peer : first.peer ≡ t.control.peer
@@ -137,7 +137,7 @@ module _ (e : End) (moment : ℕ) (ev : Event) (letters : List Letter) (calls : 
   -- ---- the tunnel before the step
 
   abbrev pub begun : (t : Turn) → Fresh t → Tunnel
-  begun t f = record (new_tunnel f.first) { letters = letters; calls = calls; recovery = recovery }
+  begun t f = record (new_tunnel f.first) { letters = letters; calls = calls; recovery = recovery; query = t.query }
 
   -- the next letter was the next one then
   pub next_first : (t : Turn) (f : Fresh t) (k : Came) → IsNext ev (now t) k → IsNext ev (begun t f) k

@@ -79,6 +79,7 @@ use Rattle.step_laws.proofs.Stopping.{row_shut, row_shut_closed}
 use Rattle.end_model.specs.Secrets.{challenge_by, response_by}
 use Rattle.step_laws.proofs.Secrets.{asks_so, responds_so}
 use Rattle.step_laws.proofs.Hearing.{hears_control_ok, rings_ok}
+use Rattle.step_laws.proofs.Queries.{none_asks}
 
 -- a mode isn't a want of room
 mode_other : (m : Mode) → mode_why m ≡ why.Queue → ⊥
@@ -131,7 +132,7 @@ module _ (e : End) (kept : AreKept e) (moment : ℕ) (ev : Event) where
         where
           by : (b : Bool) → is_current (mode_of t.recovery) ≡ b → Goes e moment ev t.letters t.calls t.recovery i start
           by true is = inl is
-          by false is = inr (k.frozen is, refl)
+          by false is = inr (k.frozen is, refl, k.open_is is)
 
       pub begins_settled : Settled e moment ev t.letters t.calls t.recovery i start
       unfolding with_calls
@@ -140,7 +141,7 @@ module _ (e : End) (kept : AreKept e) (moment : ℕ) (ev : Event) where
         outs = tt;
         tells = tt;
         frames = tt;
-        stays = (k.local, k.busy, kept.sessions, kept.first, refl, refl, refl);
+        stays = (k.local, k.busy, kept.sessions, kept.first, refl, refl, refl, k.asks);
         goes = goes_first;
         held = held_first;
         fits = fits_first;
@@ -154,7 +155,7 @@ module _ (e : End) (kept : AreKept e) (moment : ℕ) (ev : Event) where
           words = tt;
           tells = tt;
           frames = tt;
-          stays = (k.local, k.busy, kept.sessions, kept.first, refl, refl, refl);
+          stays = (k.local, k.busy, kept.sessions, kept.first, refl, refl, refl, k.asks);
           current = current;
           held = held_first;
           fits = fits_first;
@@ -215,7 +216,7 @@ module _ (e : End) (kept : AreKept e) (moment : ℕ) (ev : Event) where
             tells = ((λ q. absurd (mode_other (mode_of t.recovery) q)), tt);
             frames = (tt, tt);
             stays = h.stays;
-            goes = inr (k.frozen inactive, refl);
+            goes = inr (k.frozen inactive, refl, k.open_is inactive);
             held = h.held;
             fits = h.fits;
           }
@@ -447,7 +448,7 @@ module _ (e : End) (kept : AreKept e) (moment : ℕ) (ev : Event) where
         words = tt;
         tells = tt;
         frames = (tt, tt);
-        stays = (refl, (λ z. absurd (omega (arith, z))), kept.sessions, next_after e.tunnel_ids kept.first, refl, refl, refl);
+        stays = (refl, (λ z. absurd (omega (arith, z))), kept.sessions, next_after e.tunnel_ids kept.first, refl, refl, refl, none_asks);
         current = refl;
         held = (refl, omega arith, omega arith);
         fits = (ascends-empty [] refl, omega arith, (λ live. omega arith), (λ o. omega arith), omega arith, (λ closed. refl));
@@ -530,7 +531,17 @@ module _ (e : End) (kept : AreKept e) (moment : ℕ) (ev : Event) where
         words = tt;
         tells = tt;
         frames = (tt, tt);
-        stays = (refl, rw (learnt_state o.window (accepting o 0)) (λ z. absurd (omega (arith, z))), kept.sessions, next_after e.tunnel_ids kept.first, refl, refl, refl);
+        stays = (
+          refl,
+          rw (learnt_state o.window (accepting o 0))
+              (λ z. absurd (omega (arith, z))),
+          kept.sessions,
+          next_after e.tunnel_ids kept.first,
+          refl,
+          refl,
+          refl,
+          none_asks,
+        );
         current = refl;
         held = let c = accepting o 0 in
             held_given (learns_window o.window c).channel.window [] (letter_of 0 (Sccrp (opening_of e.role e.config asked (response_by 2 e.config.secret o.challenge) local)))

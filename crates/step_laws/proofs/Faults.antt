@@ -8,7 +8,7 @@ use Rattle.avp_codec.specs.declared.avp.Avp.{Avp}
 use Rattle.avp_codec.specs.declared.error.AvpError.{AvpError}
 use Rattle.avp_codec.specs.Reading.{avps_of}
 use Rattle.avp_codec.proofs.Laws.{spelled_again}
-use Rattle.control_message.specs.declared.kind.Kinds.TheVariants.{Base}
+use Rattle.control_message.specs.declared.kind.Kinds.TheVariants.{Queries}
 use Rattle.control_message.specs.declared.kind.Kind.{Kind}
 use Rattle.control_message.specs.declared.kind.Kind.TheVariants as kind
 use Rattle.control_message.specs.declared.message.Read.{Read}
@@ -16,13 +16,13 @@ use Rattle.control_message.specs.declared.message.MessageError.{MessageError}
 use Rattle.control_message.specs.declared.message.MessageError.TheVariants.{NoType, UnknownType, UnknownMandatory, HiddenWithoutVector, BadValue, Missing, NoMemory}
 use Rattle.control_message.specs.Faults.{IsOfKind, HasNoType, HasUnknownType}
 use Rattle.control_message.specs.Grammar.{HasNoPlainShort}
-use Rattle.control_message.specs.Reading.{first, message_of, kind_of_pairs, plain_short, kind_by}
+use Rattle.control_message.specs.Reading.{first, plain_short, kind_by}
 use Rattle.control_message.proofs.Firsts.{first_stands, absent_first, plain_none, none_plain}
 use Rattle.control_message.proofs.Laws.{fault, kind_there, there_kind}
 use Rattle.tunnel_fsm.specs.declared.table.TunnelEvent.{TunnelEvent}
 use Rattle.tunnel_fsm.specs.declared.table.TunnelEvent.TheVariants as event
 use Rattle.end_model.specs.declared.event.Event.{Event}
-use Rattle.end_model.specs.Reading.{fault_cause, is_about_call, is_value, is_for_call, with_cause, fault_of_kind, fault_read, fault_of_pairs, CallFault, call_fault_in, TunnelFault, event_of_kind, told_by_kind, closing, closing_by, tunnel_fault_of_kind, tunnel_fault_read, tunnel_fault_of_pairs, tunnel_fault_in}
+use Rattle.end_model.specs.Reading.{fault_cause, is_about_call, is_value, is_for_call, with_cause, fault_of_kind, fault_read, fault_of_pairs, CallFault, call_fault_in, TunnelFault, event_of_kind, told_by_kind, closing, closing_by, tunnel_fault_of_kind, tunnel_fault_read, tunnel_fault_of_pairs, tunnel_fault_in, kind_said, message_said}
 use Rattle.end_model.specs.End.{End}
 use Rattle.step_laws.specs.Faults.{IsUnreadable, HasFirst, TellsFault, ValueIsWanting, ValueIsBad, ValueIsHidden, PairIsUnknown, TypeIsUnknown, TypeIsWanting, IsNoList, IsOf, IsAboutCall, IsAboutTunnel, CantBeAnswered, IsEventOf, OfSccrq, OfSccrp, OfScccn, OfStopCcn, OfOther}
 use Rattle.step_laws.specs.Causes.{CameFaulty, CameClosing, CameFaultyOpening, Stands}
@@ -56,7 +56,7 @@ error_tells body NoMemory c has h = absurd cc
 
 -- ---- a message whose type can't be known is of no kind
 
-no_type_no_kind : (avps : List Avp) (k : Kind) → IsOfKind Base avps k → HasNoType avps → ⊥
+no_type_no_kind : (avps : List Avp) (k : Kind) → IsOfKind Queries avps k → HasNoType avps → ⊥
 no_type_no_kind avps k is none =
     let t = is.has.has in
     let here : first 0 avps ≡ Some t.pair = first_stands 0 t.pair avps t.first in
@@ -71,12 +71,12 @@ no_type_no_kind avps k is none =
     other.2)
     none
 
-unknown_no_kind : (avps : List Avp) (n : ℕ) (k : Kind) → IsOfKind Base avps k → HasUnknownType Base avps n → ⊥
+unknown_no_kind : (avps : List Avp) (n : ℕ) (k : Kind) → IsOfKind Queries avps k → HasUnknownType Queries avps n → ⊥
 unfolding kind_by
 unknown_no_kind avps n k is u =
-    let none : kind_of_pairs avps ≡ None =
+    let none : kind_said avps ≡ None =
     rw (first_stands 0 u.pair avps u.first, u.plain, eq-eqb (length u.pair.value) 2 u.wide, u.number, u.unknown) refl in
-    let both : None ≡ Some k = sym none ∙ there_kind Base avps k is in
+    let both : None ≡ Some k = sym none ∙ there_kind Queries avps k is in
     absurd cc
 
 -- ---- what the body of a message says
@@ -85,21 +85,26 @@ unreadable : (body : List ℕ) (x : AvpError) → avps_of body ≡ Err x → IsU
 unreadable body x failed avps fits is = let both : Err x ≡ Ok avps = sym failed ∙ (ap avps_of is ∙ spelled_again avps fits) in absurd cc
 
 module _ (body : List ℕ) (avps : List Avp) (read : avps_of body ≡ Ok avps) where
-  has_first : (x : MessageError) → message_of avps ≡ Err x → HasFirst body x
-  has_first x failed = record { pairs = avps; read = read; fault = fault Base avps x failed }
+  has_first : (x : MessageError) → message_said avps ≡ Err x → HasFirst body x
+  has_first x failed = record { pairs = avps; read = read; fault = fault Queries avps x failed }
 
-  pub is_of : (k : Kind) → kind_of_pairs avps ≡ Some k → IsOf body k
-  is_of k named = record { pairs = avps; read = read; names = subst (λ (o : Option Kind). IfSome o (λ q. IsOfKind Base avps q)) named (kind_there Base avps) }
+  pub is_of : (k : Kind) → kind_said avps ≡ Some k → IsOf body k
+  is_of k named = record {
+    pairs = avps;
+    read = read;
+    names = subst (λ (o : Option Kind). IfSome o (λ q. IsOfKind Queries avps q)) named
+        (kind_there Queries avps);
+  }
 
   -- it has one list of pairs
   same_pairs : (others : List Avp) → avps_of body ≡ Ok others → others ≡ avps
   same_pairs others again = let both : Ok others ≡ Ok avps = sym again ∙ read in cc
 
   -- and is of one kind
-  kind_is : (k : Kind) → IsOf body k → kind_of_pairs avps ≡ Some k
-  kind_is k is = ap kind_of_pairs (sym (same_pairs is.pairs is.read)) ∙ there_kind Base is.pairs k is.names
+  kind_is : (k : Kind) → IsOf body k → kind_said avps ≡ Some k
+  kind_is k is = ap kind_said (sym (same_pairs is.pairs is.read)) ∙ there_kind Queries is.pairs k is.names
 
-  one_kind : (k j : Kind) → kind_of_pairs avps ≡ Some k → IsOf body j → j ≡ k
+  one_kind : (k j : Kind) → kind_said avps ≡ Some k → IsOf body j → j ≡ k
   one_kind k j named is = let both : Some j ≡ Some k = sym (kind_is j is) ∙ named in cc
 
   -- where it tells no session id
@@ -183,7 +188,8 @@ module _ (body : List ℕ) (avps : List Avp) (read : avps_of body ≡ Ok avps) (
   abbrev session : Option ℕ
   session = plain_short 14 avps
 
-  call_made : (k : Kind) (f : CallFault) → kind_of_pairs avps ≡ Some k → (o : Option CauseOf) → fault_cause x ≡ o → is_for_call k session o ≡ true
+  call_made : (k : Kind) (f : CallFault) → kind_said avps ≡ Some k → (o : Option CauseOf) → fault_cause x ≡ o
+      → is_for_call k session o ≡ true
       → with_cause k session o ≡ Some f → IsOfCall body f
   call_made k f named None is may h = absurd cc
   call_made k f named (Some c) is may h =
@@ -199,7 +205,7 @@ module _ (body : List ℕ) (avps : List Avp) (read : avps_of body ≡ Ok avps) (
       } in
       subst (IsOfCall body) same good
 
-  of_call : (o : Option Kind) (f : CallFault) → kind_of_pairs avps ≡ o → fault_of_kind o x avps ≡ Some f → IsOfCall body f
+  of_call : (o : Option Kind) (f : CallFault) → kind_said avps ≡ o → fault_of_kind o x avps ≡ Some f → IsOfCall body f
   of_call None f named h = absurd cc
   of_call (Some k) f named h = by (is_for_call k session (fault_cause x)) refl h
     where
@@ -213,11 +219,11 @@ call_fault body f h = by (avps_of body) refl h
   where
     by : (r : Result (List Avp) AvpError) → avps_of body ≡ r → fault_of_pairs r ≡ Some f → IsOfCall body f
     by (Err x) read is = absurd cc
-    by (Ok avps) read is = of (message_of avps) refl is
+    by (Ok avps) read is = of (message_said avps) refl is
       where
-        of : (r : Result Read MessageError) → message_of avps ≡ r → fault_read avps r ≡ Some f → IsOfCall body f
+        of : (r : Result Read MessageError) → message_said avps ≡ r → fault_read avps r ≡ Some f → IsOfCall body f
         of (Ok m) made e = absurd cc
-        of (Err x) made e = of_call body avps read x (has_first body avps read x made) (kind_of_pairs avps) f refl e
+        of (Err x) made e = of_call body avps read x (has_first body avps read x made) (kind_said avps) f refl e
 
 -- its cause stands
 pub fault_stands : (e : End) (moment : ℕ) (ev : Event) (c : CauseOf) → IsOfFault c → CameFaulty e ev c → Stands e moment ev c
@@ -300,7 +306,7 @@ module _ (body : List ℕ) where
 
   module _ (avps : List Avp) (read : avps_of body ≡ Ok avps) where
     module _ (x : MessageError) (has : HasFirst body x) where
-      tunnel_made : (k : Kind) (g : TunnelFault) → kind_of_pairs avps ≡ Some k → (o : Option CauseOf) → fault_cause x ≡ o
+      tunnel_made : (k : Kind) (g : TunnelFault) → kind_said avps ≡ Some k → (o : Option CauseOf) → fault_cause x ≡ o
           → is_for_call k (plain_short 14 avps) o ≡ false → closing_by k avps o ≡ Some g → IsOfTunnel body g
       tunnel_made k g named None is may h = absurd cc
       tunnel_made k g named (Some c) is may h =
@@ -322,7 +328,7 @@ module _ (body : List ℕ) where
           } in
           subst (IsOfTunnel body) same good
 
-      tunnel_of : (o : Option Kind) (g : TunnelFault) → kind_of_pairs avps ≡ o → tunnel_fault_of_kind o x avps ≡ Some g → IsOfTunnel body g
+      tunnel_of : (o : Option Kind) (g : TunnelFault) → kind_said avps ≡ o → tunnel_fault_of_kind o x avps ≡ Some g → IsOfTunnel body g
       tunnel_of None g named h = absurd cc
       tunnel_of (Some k) g named h = by (is_for_call k (plain_short 14 avps) (fault_cause x)) refl h
         where
@@ -332,26 +338,30 @@ module _ (body : List ℕ) where
           by false may is = tunnel_made k g named (fault_cause x) refl may is
 
     -- it can't be of a kind
-    no_kind : ((k : Kind) → IsOfKind Base avps k → ⊥) → (k : Kind) → IsOf body k → ⊥
-    no_kind none k is = none k (subst (λ v. IsOfKind Base v k) (same_pairs body avps read is.pairs is.read) is.names)
+    no_kind : ((k : Kind) → IsOfKind Queries avps k → ⊥) → (k : Kind) → IsOf body k → ⊥
+    no_kind none k is = none k (subst (λ v. IsOfKind Queries v k) (same_pairs body avps read is.pairs is.read) is.names)
 
-    tunnel_read : (r : Result Read MessageError) (g : TunnelFault) → message_of avps ≡ r → tunnel_fault_read avps r ≡ Some g → IsOfTunnel body g
+    tunnel_read : (r : Result Read MessageError) (g : TunnelFault) → message_said avps ≡ r → tunnel_fault_read avps r ≡ Some g
+        → IsOfTunnel body g
     tunnel_read (Ok m) g made h = absurd cc
     tunnel_read (Err NoType) g made h =
         let has = has_first body avps read NoType made in
-        kindless cause.Avp g (no_kind (λ k is. no_type_no_kind avps k is (fault Base avps NoType made))) (inl refl) (TypeIsWanting has) h
+        kindless cause.Avp g (no_kind (λ k is. no_type_no_kind avps k is (fault Queries avps NoType made))) (inl refl) (TypeIsWanting has) h
     tunnel_read (Err (UnknownType n)) g made h =
         let has = has_first body avps read (UnknownType n) made in
-        kindless cause.Mandatory g (no_kind (λ k is. unknown_no_kind avps n k is (fault Base avps (UnknownType n) made))) (inr (inr refl)) (TypeIsUnknown n has) h
-    tunnel_read (Err (UnknownMandatory v n)) g made h = tunnel_of (UnknownMandatory v n) (has_first body avps read _ made) (kind_of_pairs avps) g refl h
-    tunnel_read (Err (HiddenWithoutVector n)) g made h = tunnel_of (HiddenWithoutVector n) (has_first body avps read _ made) (kind_of_pairs avps) g refl h
-    tunnel_read (Err (BadValue n)) g made h = tunnel_of (BadValue n) (has_first body avps read _ made) (kind_of_pairs avps) g refl h
-    tunnel_read (Err (Missing n)) g made h = tunnel_of (Missing n) (has_first body avps read _ made) (kind_of_pairs avps) g refl h
-    tunnel_read (Err NoMemory) g made h = tunnel_of NoMemory (has_first body avps read _ made) (kind_of_pairs avps) g refl h
+        kindless cause.Mandatory g (no_kind (λ k is. unknown_no_kind avps n k is (fault Queries avps (UnknownType n) made)))
+        (inr (inr refl)) (TypeIsUnknown n has) h
+    tunnel_read (Err (UnknownMandatory v n)) g made h = tunnel_of (UnknownMandatory v n) (has_first body avps read _ made)
+        (kind_said avps) g refl h
+    tunnel_read (Err (HiddenWithoutVector n)) g made h = tunnel_of (HiddenWithoutVector n) (has_first body avps read _ made)
+        (kind_said avps) g refl h
+    tunnel_read (Err (BadValue n)) g made h = tunnel_of (BadValue n) (has_first body avps read _ made) (kind_said avps) g refl h
+    tunnel_read (Err (Missing n)) g made h = tunnel_of (Missing n) (has_first body avps read _ made) (kind_said avps) g refl h
+    tunnel_read (Err NoMemory) g made h = tunnel_of NoMemory (has_first body avps read _ made) (kind_said avps) g refl h
 
   tunnel_pairs : (r : Result (List Avp) AvpError) (g : TunnelFault) → avps_of body ≡ r → tunnel_fault_of_pairs r ≡ Some g → IsOfTunnel body g
   unfolding tunnel_fault_of_pairs
-  tunnel_pairs (Ok avps) g read h = tunnel_read avps read (message_of avps) g refl h
+  tunnel_pairs (Ok avps) g read h = tunnel_read avps read (message_said avps) g refl h
   tunnel_pairs (Err x) g read h =
       kindless cause.Avp g (λ k is. let both : Err x ≡ Ok is.pairs = sym read ∙ is.read in absurd cc) (inl refl) (IsNoList (unreadable body x read)) h
 
@@ -378,8 +388,8 @@ pub record IsOfOpening (body : List ℕ) (g : TunnelFault) : Type 0 where
   pub fault : TellsFault body g.cause
   pub kind : IsOf body kind.Sccrq
 
-module _ (body : List ℕ) (avps : List Avp) (read : avps_of body ≡ Ok avps) (x : MessageError) (made : message_of avps ≡ Err x)
-    (named : kind_of_pairs avps ≡ Some kind.Sccrq) (g : TunnelFault) where
+module _ (body : List ℕ) (avps : List Avp) (read : avps_of body ≡ Ok avps) (x : MessageError) (made : message_said avps ≡ Err x)
+    (named : kind_said avps ≡ Some kind.Sccrq) (g : TunnelFault) where
   opening_made : (o : Option CauseOf) → fault_cause x ≡ o → closing_by kind.Sccrq avps o ≡ Some g → IsOfOpening body g
   opening_made None is h = absurd cc
   opening_made (Some c) is h =
@@ -392,12 +402,13 @@ module _ (body : List ℕ) (avps : List Avp) (read : avps_of body ≡ Ok avps) (
       } in
       subst (IsOfOpening body) same good
 
-  of_sccrq : tunnel_fault_of_kind (kind_of_pairs avps) x avps ≡ Some g → IsOfOpening body g
+  of_sccrq : tunnel_fault_of_kind (kind_said avps) x avps ≡ Some g → IsOfOpening body g
   of_sccrq h = opening_made (fault_cause x) refl (rw named at h)
 
 -- the fault is of its pairs, and not of its type
-pub of_opening : (body : List ℕ) (avps : List Avp) → avps_of body ≡ Ok avps → (x : MessageError) → message_of avps ≡ Err x → (g : TunnelFault)
-    → kind_of_pairs avps ≡ Some kind.Sccrq → IsInner x → tunnel_fault_read avps (Err x) ≡ Some g → IsOfOpening body g
+pub of_opening : (body : List ℕ) (avps : List Avp) → avps_of body ≡ Ok avps → (x : MessageError) → message_said avps ≡ Err x
+    → (g : TunnelFault)
+    → kind_said avps ≡ Some kind.Sccrq → IsInner x → tunnel_fault_read avps (Err x) ≡ Some g → IsOfOpening body g
 of_opening body avps read NoType made g named inner h = absurd inner
 of_opening body avps read (UnknownType n) made g named inner h = absurd inner
 of_opening body avps read (UnknownMandatory v n) made g named inner h = of_sccrq body avps read (UnknownMandatory v n) made named g h

@@ -188,8 +188,8 @@ module _ (e : End) (kept : AreKept e) (moment : ℕ) (ev : Event) (block : List 
           outs = all_map IsWord _ (word_ok e.role e.config (tunnel_after frozen_turn t.letters t.calls (Some q)) (freezing ∷ [])) (map Gone ss) (gone_words ss);
           tells = gone_tells e moment ev ss;
           frames = (tt, tt);
-          stays = (refl, h.stays.1, h.stays.2, next_after e.tunnel_ids kept.first, refl, refl);
-          frozen = λ inactive. refl;
+          stays = (refl, h.stays.1, h.stays.2, next_after e.tunnel_ids kept.first, refl, refl, h.stays.6);
+          frozen = λ inactive. (refl, open_is);
           recovering = one_line e.role e.config i q (all_map (IsRecoveryLetter e.role e.config i (ByAnswer answer)) (IsRecoveryLetter e.role e.config i q) (channel_letter e.role e.config i channel (ByAnswer answer)) channel.outbox.letters says);
           held = h.held;
           fits = fits_ended (frozen_control (asked_in o) t.control) ss t.calls h.fits;

@@ -47,6 +47,7 @@ use Rattle.step_laws.proofs.Lists.{all_append, branch, among_left, among_right, 
 use Rattle.step_laws.proofs.Distinct.{AreDistinct, among_either, distinct_append, distinct_ids, distinct_pairs}
 use Rattle.step_laws.proofs.Untold.{killed_by, tells_none}
 use Rattle.step_laws.proofs.Parting.{Parts, turns_parts}
+use Rattle.step_laws.proofs.Queries.{none_asks}
 use Rattle.step_laws.proofs.Unborn.{tick_makes, recovery_makes}
 use Rattle.control_message.specs.declared.message.Opening.{Opening}
 use Rattle.end_model.specs.Recovering.{is_tick, recovering_turns, hears_recovery, froze}
@@ -238,7 +239,8 @@ module _ (e : End) (kept : AreKept e) (looks : LooksAreTrue e) (moment : ℕ) (b
   have_places i t is q there = let c = found (at t.calls q) there in has_place i t is q c.0 c.1
 
   parts_of : (ev : Event) (i : ℕ) (t : Tunnel) → at e.tunnels i ≡ Some t → Parts t.calls (turns e.role e.config t.letters t.calls ev (turn_in t env))
-  parts_of ev i t is = turns_parts t.calls (kept.tunnels i t is).calls e.role e.config t.letters ev (turn_in t env) tells_none
+  parts_of ev i t is = turns_parts t.calls (kept.tunnels i t is).calls e.role e.config t.letters ev (turn_in t env)
+      (kept.tunnels i t is).asks tells_none
 
   main_goes : (ev : Event) → is_tick ev ≡ false → (i : ℕ) (o : Option Tunnel) → at e.tunnels i ≡ o → Goes (in_main e env ev i o)
   unfolding in_main recovering_turns
@@ -272,7 +274,8 @@ module _ (e : End) (kept : AreKept e) (looks : LooksAreTrue e) (moment : ℕ) (b
   unfolding in_new after_new
   new_goes ev peer =
       let t = turns e.role e.config [] [] ev (turn_of (fresh peer moment) env) in
-      let p : Parts [] t = turns_parts [] (ascends-empty [] refl) e.role e.config [] ev (turn_of (fresh peer moment) env) tells_none in
+      let p : Parts [] t = turns_parts [] (ascends-empty [] refl) e.role e.config [] ev
+      (turn_of (fresh peer moment) env) none_asks tells_none in
       branch Goes (t.control.local == 0) _ _
       (λ zero. record {
         once = distinct_pairs (gone_in t.outputs) (turn_once e 0 [] [] None t p);

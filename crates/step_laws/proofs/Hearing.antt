@@ -51,6 +51,8 @@ use Rattle.step_laws.proofs.Turns.{IsCurrent, small_draw, TurnOk, at_turn, is_ro
 use Rattle.step_laws.proofs.Settling.{Settled, unsent, settled_ok}
 use Rattle.step_laws.proofs.Comes.{Fresh, Taking, Plain, now, to_still, in_other, comes_at, begun, calls_first, spare_first}
 use Rattle.step_laws.proofs.Calls.{plainly, in_call_ok}
+use Rattle.step_laws.proofs.Questions.{in_query_ok, heeds_answer_ok}
+use Rattle.end_model.specs.Querying.{told_at}
 use Rattle.step_laws.proofs.Stopping.{busy, sccrq_ok, sccrp_shut_ok, scccn_shut_ok, scccn_wrong_ok, stop_ok, faulty_heard_ok, closed_plain}
 
 module _ (e : End) (moment : ℕ) (ev : Event) (letters : List Letter) (calls : List (ℕ × Call)) (recovery : Option Recovering) (i : ℕ) where
@@ -161,8 +163,9 @@ module _ (e : End) (moment : ℕ) (ev : Event) (letters : List Letter) (calls : 
     hears_ok session Occn t f h = plain_at session Occn t f tt h
     hears_ok session Wen t f h = plain_at session Wen t f tt h
     hears_ok session Sli t f h = plain_at session Sli t f tt h
-    hears_ok session (Fsq sessions) t f h = plain_at session (Fsq sessions) t f tt h
-    hears_ok session (Fsr sessions) t f h = plain_at session (Fsr sessions) t f tt h
+    hears_ok session (Fsq sessions) t f h = in_query_ok e moment ev letters calls recovery i session sessions t f h
+    hears_ok session (Fsr answers) t f h =
+        heeds_answer_ok e moment ev letters calls recovery i session answers t f h (told_at t.control.state t.query answers) refl
 
     hears_said_ok : (r : Result Message Why) (t : Turn) → Takes t → (k : Came) → IsNext ev (now_at t) k → message_in k.body ≡ r
         → Good (hears_said e.role e.config calls k.header.session (call_fault_in k.body) (tunnel_fault_in k.body) r t)

@@ -8,7 +8,6 @@ use Rattle.id_source.specs.declared.IdError.{IdError}
 use Rattle.wire_base.specs.declared.letter.Letter.{Letter}
 use Rattle.send_window.specs.Kept.{Window}
 use Rattle.send_window.specs.Window as sending
-use Rattle.control_channel.specs.Numbers.{count_acked}
 use Rattle.end_model.specs.declared.tunnel.Control.{Control}
 use Rattle.end_model.specs.Channels.{learns_window, peer_window}
 use Rattle.step_laws.proofs.Lists.{branch}

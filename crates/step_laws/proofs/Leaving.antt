@@ -30,6 +30,7 @@ use Rattle.end_model.specs.End.{End, Stepped, gives_only, placed, with_looks, af
 use Rattle.step_laws.specs.Causes.{Stands}
 use Rattle.step_laws.specs.Letters.{IsRecoveryLetter, HasOutput}
 use Rattle.step_laws.specs.Moves.{Chain, Does, WhyCleared}
+use Rattle.step_laws.specs.Queries.{IsQuery}
 use Rattle.step_laws.specs.Steps.{IsKept, AreKept, InChain, IsChain}
 use Rattle.step_laws.proofs.Lists.{all_append, all_map, chain_append, without_put, ascends_placed, ascends_looks}
 use Rattle.step_laws.proofs.Owing.{Fits}
@@ -90,7 +91,7 @@ module _ (e : End) (kept : AreKept e) (moment : ℕ) (ev : Event) where
     abbrev pub StaysThere : Type 0
     StaysThere =
         (r.control.local ≡ i) × (state_number r.control.state ≡ 0 → ⊥) × (r.ids.sessions.last < 65536) × (0 < r.ids.tunnels.next)
-        × (r.on.moment ≡ moment) × (r.cleared ≡ false)
+        × (r.on.moment ≡ moment) × (r.cleared ≡ false) × IsQuery r.query
 
     -- a turn with what it sent, of a tunnel that has this recovery tunnel then
     pub record Whole : Type 0 where
@@ -99,14 +100,17 @@ module _ (e : End) (kept : AreKept e) (moment : ℕ) (ev : Event) where
       pub tells : AllByRecursion (Tells e moment ev) r.outputs
       pub frames : AllByRecursion (HasOutput r.outputs) r.moves
       pub stays : StaysThere
-      pub frozen : is_current (mode_of recovery) ≡ false → r.control.channel.frozen ≡ true
+      pub frozen : is_current (mode_of recovery) ≡ false → (r.control.channel.frozen ≡ true) × (state_number r.control.state ≡ 3)
       pub recovering : IsLineKept e.role e.config i recovery
       pub held : Held r.control.channel.window (letters_after r letters)
       pub fits : Fits r.control (with_calls r.changed calls)
 
-    frozen_after : Goes e moment ev letters calls recovery i r → is_current (mode_of recovery) ≡ false → r.control.channel.frozen ≡ true
-    frozen_after goes inactive =
-        ⊎_elim (λ current. absurd (true≢false (sym current ∙ inactive))) (λ (k : (r.control.channel.frozen ≡ true) × (r.took ≡ false)). k.0) goes
+    frozen_after : Goes e moment ev letters calls recovery i r → is_current (mode_of recovery) ≡ false
+        → (r.control.channel.frozen ≡ true) × (state_number r.control.state ≡ 3)
+    frozen_after goes inactive = ⊎_elim
+        (λ current. absurd (true≢false (sym current ∙ inactive)))
+        (λ (k : (r.control.channel.frozen ≡ true) × (r.took ≡ false) × (state_number r.control.state ≡ 3)). (k.0, k.2))
+        goes
 
     -- a turn of the tunnel alone
     pub whole_of : IsLineKept e.role e.config i recovery → Settled e moment ev letters calls recovery i r → Whole
@@ -115,7 +119,7 @@ module _ (e : End) (kept : AreKept e) (moment : ℕ) (ev : Event) where
       outs = h.outs;
       tells = h.tells;
       frames = h.frames;
-      stays = (h.stays.0, h.stays.1, h.stays.2, h.stays.3, h.stays.4, h.stays.5);
+      stays = (h.stays.0, h.stays.1, h.stays.2, h.stays.3, h.stays.4, h.stays.5, h.stays.7);
       frozen = frozen_after h.goes;
       recovering = line;
       held = h.held;
@@ -123,7 +127,8 @@ module _ (e : End) (kept : AreKept e) (moment : ℕ) (ev : Event) where
     }
 
     -- so its end's tunnels are kept
-    kept_as : (line : Option Recovering) → IsLineKept e.role e.config i line → (is_current (mode_of line) ≡ false → r.control.channel.frozen ≡ true) → Whole
+    kept_as : (line : Option Recovering) → IsLineKept e.role e.config i line
+        → (is_current (mode_of line) ≡ false → (r.control.channel.frozen ≡ true) × (state_number r.control.state ≡ 3)) → Whole
         → AreKept (left_with (put e.tunnels i (record tunnel { recovery = line })))
     kept_as line holds frozen h =
         let s = h.stays in
@@ -142,7 +147,9 @@ module _ (e : End) (kept : AreKept e) (moment : ℕ) (ev : Event) where
                 shut = h.fits.5;
                 owed = h.fits.3;
                 acked = h.held.2;
-                frozen = frozen;
+                frozen = λ inactive. (frozen inactive).0;
+                open_is = λ inactive. (frozen inactive).1;
+                asks = s.6;
                 recovering = subst (λ k. IsLineKept e.role e.config k line) (sym a.0) holds;
               }))
               (λ a. kept.tunnels j u a.1)

@@ -24,7 +24,9 @@ mod Keeping
 mod Linking
 mod Calls
 mod Faulty
+mod Queries
 mod Stopping
+mod Questions
 mod Hearing
 mod Moments
 mod Named
@@ -34,6 +36,7 @@ mod OnLine
 mod Leaving
 mod Ends
 mod LineConnections
+mod LineQuestions
 mod Recovered
 mod Freezing
 mod Declining

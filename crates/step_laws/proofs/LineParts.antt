@@ -36,7 +36,7 @@ use Rattle.end_model.specs.Moments.{is_open}
 use Rattle.step_laws.specs.Letters.{Among}
 use Rattle.step_laws.proofs.Lists.{branch}
 use Rattle.step_laws.proofs.Distinct.{AreDistinct, among_either, distinct_append, distinct_ids, among_there}
-use Rattle.step_laws.proofs.Untold.{TellsIn, told, dropped, caused}
+use Rattle.step_laws.proofs.Untold.{TellsIn, told, dropped, caused, next_still}
 use Rattle.step_laws.proofs.Shutting.{all_ended_is}
 use Rattle.step_laws.proofs.Parting.{Parts, parts_none, ended_all, cleared_parts}
 use Rattle.step_laws.proofs.Freezing.{unfinished_is}
@@ -70,10 +70,11 @@ module _ (g : List ℕ) where
   unfolding with_move
   moved_still m t h = record { gone = h.gone; killed = h.killed }
 
-  reset_still : (letters : List Letter) (s : Suggested) (draw : ℕ) (r : Recovering) (t : Turn) → TellsIn g t → TellsIn g (resets_by letters s draw r t)
+  reset_still : (letters : List Letter) (calls : List (ℕ × Call)) (s : Suggested) (draw : ℕ) (r : Recovering) (t : Turn) → TellsIn g t
+      → TellsIn g (resets_by letters calls s draw r t)
   unfolding resets_by resets with_move
-  reset_still letters s draw (ByAttempt c) t h = record { gone = h.gone; killed = h.killed }
-  reset_still letters s draw (ByAnswer a) t h = record { gone = h.gone; killed = h.killed }
+  reset_still letters calls s draw (ByAttempt c) t h = record { gone = h.gone; killed = h.killed }
+  reset_still letters calls s draw (ByAnswer a) t h = record { gone = h.gone; killed = h.killed }
 
   without_still : (t : Turn) → TellsIn g t → TellsIn g (without_recovery t).turn
   unfolding without_recovery
@@ -148,7 +149,8 @@ module _ (calls : List (ℕ × Call)) where
     follows_parts : (letters : List Letter) (p : Progress) (r : Recovering) (t : Turn) → TellsIn [] t → PartsOf (follows letters calls p r t)
     unfolding follows
     follows_parts letters progress.Waiting r t h = parts_none calls _ (goes_still [] r t h)
-    follows_parts letters (progress.Reset s draw) r t h = parts_none calls _ (goes_still [] r _ (reset_still [] letters s (unwrap_or draw 0) r t h))
+    follows_parts letters (progress.Reset s draw) r t h =
+        parts_none calls _ (next_still [] letters _ (goes_still [] r _ (reset_still [] letters calls s (unwrap_or draw 0) r t h)))
     follows_parts letters (progress.Given cause) r t h =
         cleared_parts calls order _ (goes_still [] r (with_output (Refused cause) t) (caused [] cause t h))
     follows_parts letters progress.Cleared r t h = cleared_parts calls order t h

@@ -1,5 +1,5 @@
 -- What the data plane sees of each session stays so.
-use Rattle.std.proofs.Common.{◌≡◌, ⊎_elim, ℕ, ◌+◌, ◌<◌, ◌≤◌, Bool, List, [], ◌∷◌, refl, sym, ap, ◌∙◌, subst, Option, Some, None, Ok, arith, Result, Err}
+use Rattle.std.proofs.Common.{◌≡◌, ⊎_elim, ℕ, ◌+◌, ◌<◌, ◌≤◌, Bool, List, [], ◌∷◌, refl, sym, ap, ◌∙◌, subst, Option, Some, None, Ok, arith, Result, Err, inl, inr}
 use Rattle.std.proofs.lemmas.Option.{none-some}
 use Rattle.std.specs.Prelude.{map, filter}
 use Rattle.id_source.specs.Spaces.{Space, takes_id, after_id, draw_is, with_taken}
@@ -8,7 +8,6 @@ use Rattle.tunnel_fsm.specs.declared.table.TunnelState.TheVariants as tunnel
 use Rattle.id_table.specs.Ids.{at, put, without, at-none, ids_of, put-put}
 use Rattle.id_table.specs.Order.{Ascends, ascends-put, ascends-empty, at_new, at_other, found_put, same_or_not, at_without_other, ascends-without, found_without, put-again}
 use Rattle.call_fsm.specs.declared.table.CallEvent.TheVariants as call_event
-use Rattle.call_fsm.specs.declared.table.CallState.TheVariants.{Established}
 use Rattle.call_link.specs.Link.{new_link}
 use Rattle.call_link.specs.Laws.{turn_at}
 use Rattle.call_link.specs.Told.{each_tells_opening}
@@ -40,6 +39,9 @@ use Rattle.end_model.specs.Recovering.{is_unfinished}
 use Rattle.step_laws.proofs.Shutting.{ended, without_first}
 use Rattle.step_laws.proofs.Finished.{at_later, at_first, without_later, filter_over, left_finished, own_entries, ascends_finished}
 use Rattle.step_laws.proofs.Ups.{steps_are_no_starts}
+use Rattle.step_laws.proofs.Queries.{ended_each, ascends_each}
+use Rattle.step_laws.specs.Queries.{AreUpInTurn, without_each}
+use Rattle.session_query.specs.Queries.{Asking}
 pub use Rattle.step_laws.proofs.LookParts.{drawn_next, AreOrdered, lac_has_none, lac_fits, rung_fits, asked_fits, linked_fits, connected_fits, same_place, opened_place}
 
 -- ---- one tunnel is put, and one place
@@ -59,26 +61,27 @@ module _ (x : End) (ok : LooksAreTrue x) where
       (found_put x.tunnels i u j v (rw (← tunnels) f)))
 
   -- a tunnel goes on with the calls that it has
-  calls_stay : (i : ℕ) (t : Tunnel) (c : Control) (ls : List Letter) (q : Option Recovering) → at x.tunnels i ≡ Some t → c.peer ≡ t.control.peer
-      → LooksAreTrue (with_tunnel x i (record t { control = c; letters = ls; recovery = q }))
-  calls_stay i t c ls q there peer = record {
-    live = λ s p f. let l = ok.live s p f in ⊎_elim
-        (λ (a : p.tunnel ≡ i). (let k = same_tunnel p.tunnel i l.tunnel t a l.there there in
-        record { tunnel = record t { control = c; letters = ls; recovery = q }; there = rw a (at_new x.tunnels i (record t { control = c; letters = ls; recovery = q })); call = l.call; live = rw (← k) l.live }))
-        (λ o. record { tunnel = l.tunnel; there = at_other x.tunnels i (record t { control = c; letters = ls; recovery = q }) p.tunnel o ∙ l.there; call = l.call; live = l.live })
-        (same_or_not p.tunnel i);
-    seen = λ j u f s d g. ⊎_elim
-        (λ (a : (j ≡ i) × (record t { control = c; letters = ls; recovery = q } ≡ u)). rw (a.0, ← a.1, peer) (ok.seen i t there s d (rw (← a.1) at g)))
-        (λ a. ok.seen j u a.1 s d g)
-        (found_put x.tunnels i (record t { control = c; letters = ls; recovery = q }) j u f);
-    links = links_put (with_tunnel x i (record t { control = c; letters = ls; recovery = q })) i (record t { control = c; letters = ls; recovery = q }) refl refl
-        (λ s d g. ok.links i t there s d g);
-    tunnels = λ j u f. ⊎_elim
-        (λ (a : (j ≡ i) × (record t { control = c; letters = ls; recovery = q } ≡ u)). rw a.0 (ok.tunnels i t there))
-        (λ a. ok.tunnels j u a.1)
-        (found_put x.tunnels i (record t { control = c; letters = ls; recovery = q }) j u f);
-    sessions = ok.sessions;
-  }
+  calls_stay : (i : ℕ) (t : Tunnel) (c : Control) (ls : List Letter) (q : Option Recovering) (asks : Asking) → at x.tunnels i ≡ Some t
+      → c.peer ≡ t.control.peer → LooksAreTrue (with_tunnel x i (record t { control = c; letters = ls; recovery = q; query = asks }))
+  calls_stay i t c ls q asks there peer =
+      let v : Tunnel = record t { control = c; letters = ls; recovery = q; query = asks } in
+      record {
+        live = λ s p f. let l = ok.live s p f in ⊎_elim
+            (λ (a : p.tunnel ≡ i). (let k = same_tunnel p.tunnel i l.tunnel t a l.there there in
+            record { tunnel = v; there = rw a (at_new x.tunnels i v); call = l.call; live = rw (← k) l.live }))
+            (λ o. record { tunnel = l.tunnel; there = at_other x.tunnels i v p.tunnel o ∙ l.there; call = l.call; live = l.live })
+            (same_or_not p.tunnel i);
+        seen = λ j u f s d g. ⊎_elim
+            (λ (a : (j ≡ i) × (v ≡ u)). rw (a.0, ← a.1, peer) (ok.seen i t there s d (rw (← a.1) at g)))
+            (λ a. ok.seen j u a.1 s d g)
+            (found_put x.tunnels i v j u f);
+        links = links_put (with_tunnel x i v) i v refl refl (λ s d g. ok.links i t there s d g);
+        tunnels = λ j u f. ⊎_elim
+            (λ (a : (j ≡ i) × (v ≡ u)). rw a.0 (ok.tunnels i t there))
+            (λ a. ok.tunnels j u a.1)
+            (found_put x.tunnels i v j u f);
+        sessions = ok.sessions;
+      }
 
   -- a tunnel that is new has no calls
   tunnel_born : (y : End) (i : ℕ) (c : Control) (ls : List Letter) → i ≡ x.tunnel_ids.next → y.tunnels ≡ put x.tunnels i (record (new_tunnel c) { letters = ls })
@@ -394,7 +397,7 @@ froze_looks : (x : End) → LooksAreTrue x → AreOrdered x → (i : ℕ) (t : T
 froze_looks x ok order i t there c q peer ended_so =
     let u = record t { calls = finished_of t.calls } in
     let y = ended_end (unfinished_of t.calls) x i t (finished_of t.calls) in
-    let z = calls_stay y ended_so i u c t.letters (Some q) (at_new x.tunnels i u) peer in
+    let z = calls_stay y ended_so i u c t.letters (Some q) t.query (at_new x.tunnels i u) peer in
     let same : with_tunnel y i (record u { control = c; recovery = Some q }) ≡ record y { tunnels = put x.tunnels i (record u { control = c; recovery = Some q }) } =
     ap (λ ts. record y { tunnels = ts }) (put-put x.tunnels i u (record u { control = c; recovery = Some q })) in
     let w = subst LooksAreTrue same z in
@@ -406,6 +409,28 @@ froze_looks x ok order i t there c q peer ended_so =
       tunnels = λ j v f. let lt = w.tunnels j v f in omega (arith, rises, lt);
       sessions = w.sessions;
     }
+
+-- those that are established live
+live_up : (ss : List ℕ) (calls : List (ℕ × Call)) → AreUpInTurn ss calls → AreLive ss calls
+live_up [] calls h = tt
+live_up (s ∷ ss) calls h = (h.0, h.1, live_up ss (without calls s) h.3)
+
+-- a tunnel that learns which of its calls aren't there
+took_looks : (x : End) → LooksAreTrue x → AreOrdered x → (i : ℕ) (t : Tunnel) → at x.tunnels i ≡ Some t → (ss : List ℕ) → AreLive ss t.calls
+    → (c : Control) (asks : Asking) → c.peer ≡ t.control.peer
+    → LooksAreTrue (record
+    (with_tunnel x i (record t { control = c; calls = without_each ss t.calls; query = asks })) {
+      calls = with_looks
+          (map cell.Kill ss) x.calls;
+    })
+took_looks x ok order i t there ss live c asks peer =
+    let cs = without_each ss t.calls in
+    let u = record t { calls = cs } in
+    let y = ended_end ss x i t cs in
+    let ends : LooksAreTrue y = subst (λ es. LooksAreTrue (ended_end ss x i t es)) (ended_each ss t.calls)
+    (calls_end ss x ok order i t there live) in
+    let z = calls_stay y ends i u c t.letters t.recovery asks (at_new x.tunnels i u) peer in
+    subst (λ ts. LooksAreTrue (record y { tunnels = ts })) (put-put x.tunnels i u (record u { control = c; query = asks })) z
 
 module _ (x : End) (ok : LooksAreTrue x) where
   stays : (y : End) → y ≡ x → LooksAreTrue y
@@ -420,9 +445,13 @@ module _ (x : End) (ok : LooksAreTrue x) where
       tunnel_born x ok y m.tunnel _ _ (draw_is x.tunnel_ids m.tunnel h.drawn).0 (ap (λ (e : End). e.tunnels) h.after) (ap (λ (e : End). e.calls) h.after)
       (ap (λ (e : End). e.tunnel_ids.next) h.after ∙ drawn_next x.tunnel_ids m.tunnel h.drawn) (ap (λ (e : End). e.session_ids) h.after) (ap (λ (e : End). e.role) h.after)
   does_looks order moment ev (move.Connected m) y so h =
-      subst LooksAreTrue (sym h.after) (calls_stay x ok m.tunnel h.tunnel _ _ _ h.there (learnt_peer m.window (record h.tunnel.control { remote = m.remote; flags = m.flags; state = tunnel.Established })))
-  does_looks order moment ev (move.Confirmed m) y so h = subst LooksAreTrue (sym h.after) (calls_stay x ok m.tunnel h.tunnel _ _ _ h.there refl)
-  does_looks order moment ev (move.TookPlain m) y so h = subst LooksAreTrue (sym h.after) (calls_stay x ok m.tunnel h.tunnel _ _ _ h.there refl)
+      subst LooksAreTrue (sym h.after)
+      (calls_stay x ok m.tunnel h.tunnel _ _ _ _ h.there
+      (learnt_peer m.window (record h.tunnel.control { remote = m.remote; flags = m.flags; state = tunnel.Established })))
+  does_looks order moment ev (move.Confirmed m) y so h = subst LooksAreTrue (sym h.after)
+      (calls_stay x ok m.tunnel h.tunnel _ _ _ _ h.there refl)
+  does_looks order moment ev (move.TookPlain m) y so h = subst LooksAreTrue (sym h.after)
+      (calls_stay x ok m.tunnel h.tunnel _ _ _ _ h.there refl)
   does_looks order moment ev (move.Added m) y so h =
       let fresh = (draw_is x.session_ids m.session h.drawn).0 in
       let next : y.session_ids.next ≡ m.session + 1 = ap (λ (e : End). e.session_ids.next) h.after ∙ drawn_next x.session_ids m.session h.drawn in
@@ -545,11 +574,16 @@ module _ (x : End) (ok : LooksAreTrue x) where
   does_looks order moment ev (move.Rejected m) y so h = subst LooksAreTrue (sym h.after) (tunnel_shut x ok order m.tunnel h.tunnel h.there _ _)
   does_looks order moment ev (move.ClosedBy m) y so h = subst LooksAreTrue (sym h.after) (tunnel_shut x ok order m.tunnel h.tunnel h.there _ _)
   does_looks order moment ev (move.Cleared i booked) y so h = subst LooksAreTrue (sym h.after) (tunnel_gone x ok order i h.tunnel h.there)
-  does_looks order moment ev (move.Greeted m) y so h = subst LooksAreTrue (sym h.after) (calls_stay x ok m.tunnel h.tunnel _ _ _ h.there refl)
-  does_looks order moment ev (move.Refused m) y so h = subst LooksAreTrue (sym h.after) (calls_stay x ok m.tunnel h.tunnel _ _ _ h.there refl)
-  does_looks order moment ev (move.Repeated m) y so h = subst LooksAreTrue (sym h.after) (calls_stay x ok m.tunnel h.tunnel _ _ _ h.there refl)
-  does_looks order moment ev (move.NrRead m) y so h = subst LooksAreTrue (sym h.after) (calls_stay x ok m.tunnel h.tunnel _ _ _ h.there refl)
-  does_looks order moment ev (move.LetGo m) y so h = subst LooksAreTrue (sym h.after) (calls_stay x ok m.tunnel h.tunnel _ _ _ h.there refl)
+  does_looks order moment ev (move.Greeted m) y so h = subst LooksAreTrue (sym h.after)
+      (calls_stay x ok m.tunnel h.tunnel _ _ _ _ h.there refl)
+  does_looks order moment ev (move.Refused m) y so h = subst LooksAreTrue (sym h.after)
+      (calls_stay x ok m.tunnel h.tunnel _ _ _ _ h.there refl)
+  does_looks order moment ev (move.Repeated m) y so h = subst LooksAreTrue (sym h.after)
+      (calls_stay x ok m.tunnel h.tunnel _ _ _ _ h.there refl)
+  does_looks order moment ev (move.NrRead m) y so h = subst LooksAreTrue (sym h.after)
+      (calls_stay x ok m.tunnel h.tunnel _ _ _ _ h.there refl)
+  does_looks order moment ev (move.LetGo m) y so h = subst LooksAreTrue (sym h.after)
+      (calls_stay x ok m.tunnel h.tunnel _ _ _ _ h.there refl)
   does_looks order moment ev (move.Declined m) y so h = stays y h.after
   does_looks order moment ev (move.Quiet i) y so h = stays y h.after
   does_looks order moment ev (move.Negotiated m) y so h =
@@ -601,11 +635,22 @@ module _ (x : End) (ok : LooksAreTrue x) where
       subst LooksAreTrue (sym h.after) (froze_looks x ok order m.tunnel h.tunnel h.there _ h.recovery refl
       (subst (λ cs. FrozenSo x m.tunnel h.tunnel cs) left (calls_end (unfinished_of h.tunnel.calls) x ok order m.tunnel h.tunnel h.there
       (live_filter (λ s. is_unfinished (at h.tunnel.calls s)) h.tunnel.calls (order.calls m.tunnel h.tunnel h.there)))))
-  does_looks order moment ev (move.ResetAttempting m) y so h = subst LooksAreTrue (sym h.after) (calls_stay x ok m.tunnel h.tunnel _ _ _ h.there refl)
-  does_looks order moment ev (move.ResetAnswering m) y so h = subst LooksAreTrue (sym h.after) (calls_stay x ok m.tunnel h.tunnel _ _ _ h.there refl)
-  does_looks order moment ev (move.RecoveryWentOn i) y so h = subst LooksAreTrue (sym h.after) (calls_stay x ok i h.tunnel _ _ _ h.there refl)
-  does_looks order moment ev (move.RecoveryEnded i) y so h = subst LooksAreTrue (sym h.after) (calls_stay x ok i h.tunnel _ _ _ h.there refl)
-  does_looks order moment ev (move.Ignored i) y so h = subst LooksAreTrue (sym h.after) (calls_stay x ok i h.tunnel _ _ _ h.there refl)
+  does_looks order moment ev (move.ResetAttempting m) y so h = subst LooksAreTrue (sym h.after)
+      (calls_stay x ok m.tunnel h.tunnel _ _ _ _ h.there refl)
+  does_looks order moment ev (move.ResetAnswering m) y so h = subst LooksAreTrue (sym h.after)
+      (calls_stay x ok m.tunnel h.tunnel _ _ _ _ h.there refl)
+  does_looks order moment ev (move.Queried m) y so h = subst LooksAreTrue (sym h.after)
+      (calls_stay x ok m.tunnel h.tunnel _ _ _ _ h.there refl)
+  does_looks order moment ev (move.AnsweredQuery m) y so h = subst LooksAreTrue (sym h.after)
+      (calls_stay x ok m.tunnel h.tunnel _ _ _ _ h.there refl)
+  does_looks order moment ev (move.TookAnswer m) y so h =
+      subst LooksAreTrue (sym h.after)
+      (took_looks x ok order m.tunnel h.tunnel h.there m.ended (live_up m.ended h.tunnel.calls h.up) _ _ refl)
+  does_looks order moment ev (move.RecoveryWentOn i) y so h = subst LooksAreTrue (sym h.after)
+      (calls_stay x ok i h.tunnel _ _ _ _ h.there refl)
+  does_looks order moment ev (move.RecoveryEnded i) y so h = subst LooksAreTrue (sym h.after)
+      (calls_stay x ok i h.tunnel _ _ _ _ h.there refl)
+  does_looks order moment ev (move.Ignored i) y so h = subst LooksAreTrue (sym h.after) (calls_stay x ok i h.tunnel _ _ _ _ h.there refl)
 
 -- ---- what ascends still does
 
@@ -631,11 +676,13 @@ module _ (x : End) (ok : AreOrdered x) where
       tunnel_put y i (record t { control = c; letters = ls }) (ok.calls i t there) (ap (λ (e : End). e.tunnels) is)
       (looks_stay_so y (ap (λ (e : End). e.calls) is))
 
-  -- with another recovery tunnel
-  line_on : (y : End) (i : ℕ) (t : Tunnel) (c : Control) (ls : List Letter) (q : Option Recovering) → at x.tunnels i ≡ Some t
-      → y ≡ with_tunnel x i (record t { control = c; letters = ls; recovery = q }) → AreOrdered y
-  line_on y i t c ls q there is =
-      tunnel_put y i (record t { control = c; letters = ls; recovery = q }) (ok.calls i t there) (ap (λ (e : End). e.tunnels) is)
+  -- with another recovery tunnel, or another query
+  line_on : (y : End) (i : ℕ) (t : Tunnel) (c : Control) (ls : List Letter) (q : Option Recovering) (asks : Asking)
+      → at x.tunnels i ≡ Some t
+      → y ≡ with_tunnel x i (record t { control = c; letters = ls; recovery = q; query = asks }) → AreOrdered y
+  line_on y i t c ls q asks there is =
+      tunnel_put y i (record t { control = c; letters = ls; recovery = q; query = asks }) (ok.calls i t there)
+      (ap (λ (e : End). e.tunnels) is)
       (looks_stay_so y (ap (λ (e : End). e.calls) is))
 
   -- calls that come back
@@ -713,11 +760,17 @@ module _ (x : End) (ok : AreOrdered x) where
   does_order moment ev (move.Froze m) y h =
       tunnel_put y m.tunnel _ (ascends_finished h.tunnel.calls (ok.calls m.tunnel h.tunnel h.there)) (ap (λ (e : End). e.tunnels) h.after)
       (subst (λ (e : End). Ascends e.calls) (sym h.after) (ascends_looks (map cell.Kill (unfinished_of h.tunnel.calls)) x.calls ok.places))
-  does_order moment ev (move.ResetAttempting m) y h = line_on y m.tunnel h.tunnel _ _ _ h.there h.after
-  does_order moment ev (move.ResetAnswering m) y h = line_on y m.tunnel h.tunnel _ _ _ h.there h.after
-  does_order moment ev (move.RecoveryWentOn i) y h = line_on y i h.tunnel _ _ _ h.there h.after
-  does_order moment ev (move.RecoveryEnded i) y h = line_on y i h.tunnel _ _ _ h.there h.after
-  does_order moment ev (move.Ignored i) y h = line_on y i h.tunnel _ _ _ h.there h.after
+  does_order moment ev (move.ResetAttempting m) y h = line_on y m.tunnel h.tunnel _ _ _ _ h.there h.after
+  does_order moment ev (move.ResetAnswering m) y h = line_on y m.tunnel h.tunnel _ _ _ _ h.there h.after
+  does_order moment ev (move.Queried m) y h = line_on y m.tunnel h.tunnel _ _ _ _ h.there h.after
+  does_order moment ev (move.AnsweredQuery m) y h = line_on y m.tunnel h.tunnel _ _ _ _ h.there h.after
+  does_order moment ev (move.TookAnswer m) y h =
+      tunnel_put y m.tunnel _ (ascends_each m.ended h.tunnel.calls (ok.calls m.tunnel h.tunnel h.there))
+      (ap (λ (e : End). e.tunnels) h.after)
+      (subst (λ (e : End). Ascends e.calls) (sym h.after) (ascends_looks (map cell.Kill m.ended) x.calls ok.places))
+  does_order moment ev (move.RecoveryWentOn i) y h = line_on y i h.tunnel _ _ _ _ h.there h.after
+  does_order moment ev (move.RecoveryEnded i) y h = line_on y i h.tunnel _ _ _ _ h.there h.after
+  does_order moment ev (move.Ignored i) y h = line_on y i h.tunnel _ _ _ _ h.there h.after
 
 pub chain_looks : (moment : ℕ) (ev : Event) (x y : End) (ms : List Move) → AllByRecursion IsOfNoStart ms → Chain moment ev x ms y → AreOrdered x → LooksAreTrue x → LooksAreTrue y
 chain_looks moment ev x y [] so h order ok = subst LooksAreTrue h ok

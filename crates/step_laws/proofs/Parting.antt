@@ -10,6 +10,7 @@ use Rattle.wire_base.specs.declared.why.Why.TheVariants as why
 use Rattle.wire_base.specs.declared.cause.Cause.{Cause}
 use Rattle.wire_base.specs.declared.cause.Cause.TheVariants as cause
 use Rattle.wire_base.specs.declared.letter.Letter.{Letter}
+use Rattle.wire_base.specs.declared.pair.Pair.{Pair}
 use Rattle.l2tp_header.specs.declared.header.Header.{Header}
 use Rattle.l2tp_header.specs.declared.header.HeaderError.{HeaderError}
 use Rattle.l2tp_header.specs.Reading.{header_of, body_of}
@@ -52,8 +53,8 @@ use Rattle.end_model.specs.Turn.{with_output, with_move, with_change, ends_call,
 use Rattle.end_model.specs.Sending.{gives, settles, takes_one, takes_plain, reads_nr, repeats}
 use Rattle.end_model.specs.Channels.{has_room, may_take}
 use Rattle.end_model.specs.Moments.{is_closed, is_over, patience, is_at_its_end}
-use Rattle.end_model.specs.Reasons.{out_of_order, Reason, reason, out_of_state, fault_reason}
-use Rattle.end_model.specs.Hearing.{takes_by, takes, about_call, in_call, hears, hears_faulty, hears_said, hears_next, hears_letter, is_duplicate, in_tunnel, hears_control, hears_datagram, ignores_all, mode_why}
+use Rattle.end_model.specs.Reasons.{out_of_order, Reason, reason, out_of_state, fault_reason, not_asked}
+use Rattle.end_model.specs.Hearing.{takes_by, takes, about_call, in_call, hears, hears_faulty, hears_said, hears_next, hears_letter, is_duplicate, in_tunnel, hears_control, hears_datagram, ignores_all, mode_why, in_query, heeds_answer}
 use Rattle.end_model.specs.Asking.{granted, asked_by, session_named}
 use Rattle.end_model.specs.Refusing.{answers_by}
 use Rattle.end_model.specs.Faulty.{faulty_at, faulty, in_faulty_call}
@@ -62,11 +63,14 @@ use Rattle.end_model.specs.Connecting.{first_up_by, second_up_by, end_heard, end
 use Rattle.end_model.specs.Ticking.{greets, limits_at, limits_all, goes_quietly, ticks_by, ticks}
 use Rattle.end_model.specs.Linking.{sends_frames, ends_linked, links_by, hears_link, hears_lcp, ticks_link}
 use Rattle.end_model.specs.Events.{turns}
+use Rattle.end_model.specs.Querying.{ended_of, hears_answer, told_at, took_answer}
 use Rattle.step_laws.specs.Gone.{gone_of_output}
 use Rattle.step_laws.specs.Letters.{Among}
 use Rattle.step_laws.proofs.Lists.{branch}
 use Rattle.step_laws.proofs.Distinct.{AreDistinct, among_either, distinct_append, distinct_ids, among_there}
-use Rattle.step_laws.proofs.Untold.{killed_by, TellsIn, dropped, caused, settled, opens_still, first_still, connects_still, confirms_still, plain_still, read_still, ignored, replies_still, refuses_still, no_call_still, first_up_still, carries_still, frames_still, negotiated_still, linked_up_still, rings_still, repeated_still, greets_still}
+use Rattle.step_laws.proofs.Untold.{killed_by, TellsIn, dropped, caused, settled, opens_still, first_still, connects_still, confirms_still, plain_still, read_still, ignored, replies_still, refuses_still, no_call_still, first_up_still, carries_still, frames_still, negotiated_still, linked_up_still, rings_still, repeated_still, greets_still, asks_still, query_still}
+use Rattle.step_laws.specs.Queries.{IsQuery, Rise}
+use Rattle.step_laws.proofs.Queries.{ended_distinct, ended_up, told_rise}
 
 -- ---- one call ends, or all of them
 
@@ -397,30 +401,57 @@ module _ (calls : List (ℕ × Call)) where
         let row = row_of rows t.control.state ev in
         takes_by_parts role c r says row.0 row.1 t h
 
+    -- ---- questions and answers
+
+    query_parts : (pairs : List Pair) (t : Turn) → TellsIn [] t → Parts (in_query calls pairs t)
+    unfolding in_query
+    query_parts pairs t h =
+        branch Parts (state_number t.control.state == 3) _ _ (λ is. parts_none _ (query_still [] calls pairs t h)) (λ other. plain_none t h)
+
+    -- sessions that are gone end once each
+    took_parts : (answers gone : List Pair) (t : Turn) → Rise gone → TellsIn [] t → Parts (hears_answer calls answers gone t)
+    unfolding hears_answer took_answer with_move takes_one
+    took_parts answers gone t rise h =
+        let ss = ended_of calls gone in
+        record {
+          gone = ss;
+          tells = asks_still ss _ (ended_all [] ss _ (record { gone = h.gone; killed = h.killed }));
+          once = ended_distinct calls gone rise;
+          had = λ s a. let up = ended_up calls gone s a in ap (λ (o : Option Call). is_some o) up.there;
+        }
+
+    answer_parts : (role : Role) (c : Config) (answers : List Pair) (r : Result (List Pair) ℕ) (t : Turn)
+        → told_at t.control.state t.query answers ≡ r
+        → IsQuery t.query → TellsIn [] t → Parts (heeds_answer role c calls answers r t)
+    unfolding heeds_answer
+    answer_parts role c answers (Ok gone) t is q h = took_parts answers gone t (told_rise t.control.state t.query answers gone q is) h
+    answer_parts role c answers (Err place) t is q h = takes_parts role c not_asked event.AdminClose (tells_id 0) t h
+
     -- ---- control messages
 
-    hears_parts : (role : Role) (c : Config) (session : ℕ) (m : Message) (t : Turn) → TellsIn [] t → Parts (hears role c calls session m t)
+    hears_parts : (role : Role) (c : Config) (session : ℕ) (m : Message) (t : Turn) → IsQuery t.query → TellsIn [] t
+        → Parts (hears role c calls session m t)
     unfolding hears
-    hears_parts role c session (Sccrq o) t h =
+    hears_parts role c session (Sccrq o) t q h =
         takes_parts role c (opening_reason c.secret None o) (event_by event.SccrqAcc event.SccrqNotAcc c.secret None o) (tells_id 0) t h
-    hears_parts role c session (Sccrp o) t h =
+    hears_parts role c session (Sccrp o) t q h =
         takes_parts role c (opening_reason c.secret t.control.challenge o)
         (event_by event.SccrpAcc event.SccrpNotAcc c.secret t.control.challenge o) (told_by o) t h
-    hears_parts role c session (Scccn response) t h =
+    hears_parts role c session (Scccn response) t q h =
         takes_parts role c (connected_reason c.secret t.control.challenge response) (connected_event c.secret t.control.challenge response) (tells_id 0) t h
-    hears_parts role c session Hello t h = plain_none t h
-    hears_parts role c session (Cdn remote code error) t h = in_call_parts role session (Cdn remote code error) t h
-    hears_parts role c session (Icrq remote serial calling) t h = in_call_parts role session (Icrq remote serial calling) t h
-    hears_parts role c session (Icrp remote) t h = in_call_parts role session (Icrp remote) t h
-    hears_parts role c session (Iccn speed framing sequenced) t h = in_call_parts role session (Iccn speed framing sequenced) t h
-    hears_parts role c session (Ocrq remote) t h = in_call_parts role session (Ocrq remote) t h
-    hears_parts role c session (StopCcn tunnel code error) t h = takes_parts role c out_of_order event.StopCcnCame (tells_id 0) t h
-    hears_parts role c session Ocrp t h = plain_none t h
-    hears_parts role c session Occn t h = plain_none t h
-    hears_parts role c session Wen t h = plain_none t h
-    hears_parts role c session Sli t h = plain_none t h
-    hears_parts role c session (Fsq sessions) t h = plain_none t h
-    hears_parts role c session (Fsr sessions) t h = plain_none t h
+    hears_parts role c session Hello t q h = plain_none t h
+    hears_parts role c session (Cdn remote code error) t q h = in_call_parts role session (Cdn remote code error) t h
+    hears_parts role c session (Icrq remote serial calling) t q h = in_call_parts role session (Icrq remote serial calling) t h
+    hears_parts role c session (Icrp remote) t q h = in_call_parts role session (Icrp remote) t h
+    hears_parts role c session (Iccn speed framing sequenced) t q h = in_call_parts role session (Iccn speed framing sequenced) t h
+    hears_parts role c session (Ocrq remote) t q h = in_call_parts role session (Ocrq remote) t h
+    hears_parts role c session (StopCcn tunnel code error) t q h = takes_parts role c out_of_order event.StopCcnCame (tells_id 0) t h
+    hears_parts role c session Ocrp t q h = plain_none t h
+    hears_parts role c session Occn t q h = plain_none t h
+    hears_parts role c session Wen t q h = plain_none t h
+    hears_parts role c session Sli t q h = plain_none t h
+    hears_parts role c session (Fsq sessions) t q h = query_parts sessions t h
+    hears_parts role c session (Fsr answers) t q h = answer_parts role c answers (told_at t.control.state t.query answers) t refl q h
 
     faults_parts : (role : Role) (c : Config) (session : ℕ) (o : Option CallFault) (g : Option TunnelFault) (w : Why) (t : Turn) → TellsIn [] t
         → Parts (hears_faulty role c calls session o g w t)
@@ -429,38 +460,44 @@ module _ (calls : List (ℕ × Call)) where
     faults_parts role c session None (Some g) w t h = takes_parts role c (fault_reason g.cause) g.event (tells_id g.remote) t h
     faults_parts role c session None None w t h = parts_none _ (ignored [] w t h)
 
-    said_parts : (role : Role) (c : Config) (session : ℕ) (o : Option CallFault) (g : Option TunnelFault) (r : Result Message Why) (t : Turn) → TellsIn [] t
-        → Parts (hears_said role c calls session o g r t)
+    said_parts : (role : Role) (c : Config) (session : ℕ) (o : Option CallFault) (g : Option TunnelFault) (r : Result Message Why)
+        (t : Turn) → IsQuery t.query → TellsIn [] t → Parts (hears_said role c calls session o g r t)
     unfolding hears_said
-    said_parts role c session o g (Err w) t h = faults_parts role c session o g w t h
-    said_parts role c session o g (Ok m) t h = hears_parts role c session m t h
+    said_parts role c session o g (Err w) t q h = faults_parts role c session o g w t h
+    said_parts role c session o g (Ok m) t q h = hears_parts role c session m t q h
 
-    next_parts : (role : Role) (c : Config) (session : ℕ) (body : List ℕ) (t : Turn) → TellsIn [] t → Parts (hears_next role c calls session body t)
+    next_parts : (role : Role) (c : Config) (session : ℕ) (body : List ℕ) (t : Turn) → IsQuery t.query → TellsIn [] t
+        → Parts (hears_next role c calls session body t)
     unfolding hears_next
-    next_parts role c session body t h =
+    next_parts role c session body t q h =
         branch Parts (is_closed t.control.state) _ _
         (λ closed. plain_none t h)
-        (λ live. said_parts role c session (call_fault_in body) (tunnel_fault_in body) (message_in body) t h)
+        (λ live. said_parts role c session (call_fault_in body) (tunnel_fault_in body) (message_in body) t q h)
 
-    letter_parts : (role : Role) (g : Config) (session : ℕ) (body : List ℕ) (c : Option Class) (t : Turn) → TellsIn [] t
+    letter_parts : (role : Role) (g : Config) (session : ℕ) (body : List ℕ) (c : Option Class) (t : Turn) → IsQuery t.query → TellsIn [] t
         → Parts (hears_letter role g calls session body c t)
     unfolding hears_letter
-    letter_parts role g session body (Some Next) t h =
+    letter_parts role g session body (Some Next) t q h =
         branch Parts (may_take t.control calls) _ _
-        (λ may. next_parts role g session body t h)
+        (λ may. next_parts role g session body t q h)
         (λ full. parts_none _ (dropped [] why.Queue t h))
-    letter_parts role g session body (Some (Ahead by)) t h = parts_none _ (dropped [] why.Ahead t h)
-    letter_parts role g session body (Some Duplicate) t h = parts_none t h
-    letter_parts role g session body None t h = parts_none t h
+    letter_parts role g session body (Some (Ahead by)) t q h = parts_none _ (dropped [] why.Ahead t h)
+    letter_parts role g session body (Some Duplicate) t q h = parts_none t h
+    letter_parts role g session body None t q h = parts_none t h
 
     ignores_parts : (t : Turn) → TellsIn [] t → Parts (ignores_all t)
     unfolding ignores_all with_move
     ignores_parts t h = parts_none _ (dropped [] (mode_why t.on.mode) _ (record { gone = h.gone; killed = h.killed }))
 
-    control_parts : (role : Role) (c : Config) (letters : List Letter) (k : Header) (body : List ℕ) (t : Turn) → TellsIn [] t
+    read_asks : (nr : ℕ) (t : Turn) → IsQuery t.query → IsQuery (reads_nr nr t).query
+    unfolding reads_nr with_move
+    read_asks nr t q = q
+
+    control_parts : (role : Role) (c : Config) (letters : List Letter) (k : Header) (body : List ℕ) (t : Turn) → IsQuery t.query
+        → TellsIn [] t
         → Parts (hears_control role c letters calls k body t)
     unfolding hears_control in_tunnel
-    control_parts role c letters k body t h =
+    control_parts role c letters k body t q h =
         branch Parts (state_number t.control.state == 0) _ _
         (λ idle. parts_none _ (settled [] false letters _ (first_still [] role c (message_in body) t h)))
         (λ busy. branch Parts (not (is_current t.on.mode)) _ _
@@ -469,15 +506,16 @@ module _ (calls : List (ℕ × Call)) where
         let class = class_told t.control.channel (unwrap_or k.ns 0) (length body == 0) in
         let u = reads_nr (unwrap_or k.nr 0) t in
         settled_parts (is_duplicate class) letters (hears_letter role c calls k.session body class u)
-        (letter_parts role c k.session body class u (read_still [] (unwrap_or k.nr 0) t h))))
+        (letter_parts role c k.session body class u (read_asks (unwrap_or k.nr 0) t q) (read_still [] (unwrap_or k.nr 0) t h))))
 
-    datagram_parts : (role : Role) (c : Config) (letters : List Letter) (bytes : List ℕ) (r : Result Header HeaderError) (t : Turn) → TellsIn [] t
+    datagram_parts : (role : Role) (c : Config) (letters : List Letter) (bytes : List ℕ) (r : Result Header HeaderError) (t : Turn)
+        → IsQuery t.query → TellsIn [] t
         → Parts (hears_datagram role c letters calls bytes r t)
     unfolding hears_datagram
-    datagram_parts role c letters bytes (Err x) t h = parts_none _ (dropped [] (header_why x) t h)
-    datagram_parts role c letters bytes (Ok k) t h =
+    datagram_parts role c letters bytes (Err x) t q h = parts_none _ (dropped [] (header_why x) t h)
+    datagram_parts role c letters bytes (Ok k) t q h =
         branch Parts k.control _ _
-        (λ control. control_parts role c letters k (body_of bytes k) t h)
+        (λ control. control_parts role c letters k (body_of bytes k) t q h)
         (λ data_is. parts_none _ (dropped [] why.Session t h))
 
     -- ---- time
@@ -540,21 +578,23 @@ module _ (calls : List (ℕ × Call)) where
 
     -- ---- events
 
-    pub turns_parts : (role : Role) (c : Config) (letters : List Letter) (ev : Event) (t : Turn) → TellsIn [] t → Parts (turns role c letters calls ev t)
+    pub turns_parts : (role : Role) (c : Config) (letters : List Letter) (ev : Event) (t : Turn) → IsQuery t.query → TellsIn [] t
+        → Parts (turns role c letters calls ev t)
     unfolding turns
-    turns_parts role c letters (Datagram peer bytes) t h = datagram_parts role c letters bytes (header_of bytes) t h
-    turns_parts role c letters (Ring port) t h = parts_none _ (settled [] false letters _ (rings_still [] role c calls (subscriber port) t h))
-    turns_parts role c letters (Admitted mac) t h = parts_none _ (settled [] false letters _ (rings_still [] role c calls mac t h))
-    turns_parts role c letters (Frame bytes) t h = parts_none _ (dropped [] why.Node t h)
-    turns_parts role c letters (Payload s frame) t h = parts_none _ (carries_still [] s frame (at calls s) t h)
-    turns_parts role c letters (Lower s frame) t h = parts_none _ (carries_still [] s frame (at calls s) t h)
-    turns_parts role c letters (Lcp s packet) t h = hears_lcp_parts role letters s packet (at calls s) t refl h
-    turns_parts role c letters (Hang s) t h =
+    turns_parts role c letters (Datagram peer bytes) t q h = datagram_parts role c letters bytes (header_of bytes) t q h
+    turns_parts role c letters (Ring port) t q h = parts_none _
+        (settled [] false letters _ (rings_still [] role c calls (subscriber port) t h))
+    turns_parts role c letters (Admitted mac) t q h = parts_none _ (settled [] false letters _ (rings_still [] role c calls mac t h))
+    turns_parts role c letters (Frame bytes) t q h = parts_none _ (dropped [] why.Node t h)
+    turns_parts role c letters (Payload s frame) t q h = parts_none _ (carries_still [] s frame (at calls s) t h)
+    turns_parts role c letters (Lower s frame) t q h = parts_none _ (carries_still [] s frame (at calls s) t h)
+    turns_parts role c letters (Lcp s packet) t q h = hears_lcp_parts role letters s packet (at calls s) t refl h
+    turns_parts role c letters (Hang s) t q h =
         settled_parts false letters _ (closes_parts role cause.Line call_event.LineDrop 1 s (at calls s) t refl h)
-    turns_parts role c letters (DropCall s) t h =
+    turns_parts role c letters (DropCall s) t q h =
         settled_parts false letters _ (closes_parts role cause.Operator call_event.Close 3 s (at calls s) t refl h)
-    turns_parts role c letters (CloseTunnel i) t h =
+    turns_parts role c letters (CloseTunnel i) t q h =
         let row = row_of rows t.control.state event.AdminClose in
         settled_parts false letters _ (shuts_by_parts row.0 row.1 t h)
-    turns_parts role c letters OpenTunnel t h = parts_none _ (settled [] false letters _ (opens_still [] role c t h))
-    turns_parts role c letters Tick t h = ticks_parts role letters t h
+    turns_parts role c letters OpenTunnel t q h = parts_none _ (settled [] false letters _ (opens_still [] role c t h))
+    turns_parts role c letters Tick t q h = ticks_parts role letters t h

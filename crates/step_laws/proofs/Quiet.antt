@@ -12,6 +12,7 @@ use Rattle.wire_base.specs.declared.cause.Cause.{Cause}
 use Rattle.wire_base.specs.declared.why.Why.TheVariants as why
 use Rattle.wire_base.specs.declared.cause.Cause.TheVariants as cause
 use Rattle.wire_base.specs.declared.letter.Letter.{Letter}
+use Rattle.wire_base.specs.declared.pair.Pair.{Pair}
 use Rattle.control_message.specs.declared.message.Message.{Message}
 use Rattle.control_message.specs.declared.message.Message.TheVariants.{Sccrq, Sccrp, Scccn, StopCcn, Hello, Ocrq, Ocrp, Occn, Icrq, Icrp, Iccn, Cdn, Wen, Sli, Fsq, Fsr}
 use Rattle.control_message.specs.declared.kind.Kind.{Kind}
@@ -53,8 +54,8 @@ use Rattle.end_model.specs.Sending.{gives, gives_as, sends_letter, sends_now, le
 use Rattle.end_model.specs.Channels.{has_room, may_take}
 use Rattle.end_model.specs.Ringing.{requested, requests, requests_at, requests_all}
 use Rattle.end_model.specs.Moments.{is_closed, is_over, patience, is_at_its_end, is_open}
-use Rattle.end_model.specs.Reasons.{out_of_order, Reason, reason, out_of_state, fault_reason}
-use Rattle.end_model.specs.Hearing.{connects, takes_by, takes, about_call, in_call, hears, hears_faulty, hears_said, hears_next, hears_letter, is_duplicate, in_tunnel, first_said}
+use Rattle.end_model.specs.Reasons.{out_of_order, Reason, reason, out_of_state, fault_reason, not_asked}
+use Rattle.end_model.specs.Hearing.{connects, takes_by, takes, about_call, in_call, hears, hears_faulty, hears_said, hears_next, hears_letter, is_duplicate, in_tunnel, first_said, in_query, heeds_answer}
 use Rattle.end_model.specs.Asking.{granted, replied, replies, asked_by, session_named}
 use Rattle.end_model.specs.Refusing.{refused, refuses, of_no_call, answers_by}
 use Rattle.end_model.specs.Faulty.{faulty_at, faulty, in_faulty_call}
@@ -63,8 +64,10 @@ use Rattle.end_model.specs.Connecting.{first_up, first_up_by, second_up, second_
 use Rattle.end_model.specs.Ticking.{greeted, greets, limits_at, limits_all, goes_quietly, ticks_by, ticks}
 use Rattle.end_model.specs.Frames.{sends_frame, counts, carried, carries}
 use Rattle.end_model.specs.Linking.{sends_frames, negotiated, ends_linked, links_by, hears_link, hears_lcp, ticks_link}
+use Rattle.end_model.specs.Querying.{answered_query, answers_query, asks_more, asks_next, ended_of, hears_answer, queries, queries_by, told_at, took_answer}
 use Rattle.step_laws.specs.Ups.{ups_of_output, ups_of_move, births_of_move, reads_of_move}
 use Rattle.step_laws.specs.Letters.{Among}
+use Rattle.session_query.specs.Queries.{next_batch}
 use Rattle.step_laws.proofs.Lists.{all_push, branch}
 
 -- of a frame that a move sends down a call this is so; and no move is one of a start
@@ -252,6 +255,22 @@ module _ (F : ℕ → List ℕ → Type 0) (on : Ground) where
     first_quiet role c (Ok (Fsq sessions)) t h = dropped why.Tunnel t h
     first_quiet role c (Ok (Fsr sessions)) t h = dropped why.Tunnel t h
     first_quiet role c (Err w) t h = dropped why.Tunnel t h
+
+    -- ---- sessions that are asked for
+
+    queries_by_quiet : (o : Option (List Pair)) (t : Turn) → Quiet t → Quiet (queries_by o t)
+    unfolding queries_by queries gives with_move
+    queries_by_quiet None t h = h
+    queries_by_quiet (Some pairs) t h =
+        branch Quiet (has_room t.control) _ _ (λ may. did _ refl refl refl tt h) (λ full. dropped why.Queue t h)
+
+    asks_more_quiet : (t : Turn) → Quiet t → Quiet (asks_more t)
+    unfolding asks_more
+    asks_more_quiet t h = queries_by_quiet (next_batch t.query) t h
+
+    pub asks_next_quiet : (letters : List Letter) (t : Turn) → Quiet t → Quiet (asks_next letters t)
+    unfolding asks_next
+    asks_next_quiet letters t h = settled false letters (asks_more t) (asks_more_quiet t h)
 
     -- ---- calls that are asked for
 
@@ -640,6 +659,26 @@ module _ (F : ℕ → List ℕ → Type 0) (on : Ground) where
         (λ is. faulty_quiet role calls session k.kind k.cause k.session t h)
         (λ other. ignored why.Session t h)
 
+    -- ---- questions and answers
+
+    query_quiet : (calls : List (ℕ × Call)) (pairs : List Pair) (t : Turn) → Quiet t → Quiet (in_query calls pairs t)
+    unfolding in_query answers_query answered_query gives with_move takes_one
+    query_quiet calls pairs t h =
+        branch Quiet (state_number t.control.state == 3) _ _
+        (λ is. branch Quiet (has_room t.control) _ _ (λ may. did _ refl refl refl tt h) (λ full. dropped why.Queue t h))
+        (λ other. plain_quiet t h)
+
+    took_quiet : (calls : List (ℕ × Call)) (answers gone : List Pair) (t : Turn) → Quiet t → Quiet (took_answer calls answers gone t)
+    unfolding took_answer with_move takes_one
+    took_quiet calls answers gone t h = ended_all (ended_of calls gone) _ (did _ refl refl refl tt h)
+
+    answer_quiet : (role : Role) (c : Config) (calls : List (ℕ × Call)) (answers : List Pair) (r : Result (List Pair) ℕ) (t : Turn)
+        → Quiet t
+        → Quiet (heeds_answer role c calls answers r t)
+    unfolding heeds_answer hears_answer
+    answer_quiet role c calls answers (Ok gone) t h = asks_more_quiet (took_answer calls answers gone t) (took_quiet calls answers gone t h)
+    answer_quiet role c calls answers (Err place) t h = takes_quiet role c calls not_asked event.AdminClose (tells_id 0) t h
+
     -- ---- control messages
 
     hears_quiet : (role : Role) (c : Config) (calls : List (ℕ × Call)) (session : ℕ) (m : Message) (t : Turn) → ((s : ℕ) → OpensSo role s (at calls s)) → Quiet t
@@ -663,8 +702,8 @@ module _ (F : ℕ → List ℕ → Type 0) (on : Ground) where
     hears_quiet role c calls session Occn t so h = plain_quiet t h
     hears_quiet role c calls session Wen t so h = plain_quiet t h
     hears_quiet role c calls session Sli t so h = plain_quiet t h
-    hears_quiet role c calls session (Fsq sessions) t so h = plain_quiet t h
-    hears_quiet role c calls session (Fsr sessions) t so h = plain_quiet t h
+    hears_quiet role c calls session (Fsq sessions) t so h = query_quiet calls sessions t h
+    hears_quiet role c calls session (Fsr answers) t so h = answer_quiet role c calls answers (told_at t.control.state t.query answers) t h
 
     faults_quiet : (role : Role) (c : Config) (calls : List (ℕ × Call)) (session : ℕ) (o : Option CallFault) (g : Option TunnelFault) (w : Why) (t : Turn) → Quiet t
         → Quiet (hears_faulty role c calls session o g w t)

@@ -29,7 +29,7 @@ use Rattle.end_model.specs.Events.{with_calls}
 use Rattle.end_model.specs.Turn.{with_output, with_move, ends_call}
 use Rattle.end_model.specs.Recovering.{RecoveryTurn, recovery_letter, Line, goes_once, goes_by, goes, acknowledges_on, is_unfinished, ends_unfinished, suggested_by, answer_to, froze, resets, resets_by, told_by, after_message, cause_in, told_by_fault, after_fault, follows, heeds, takes_letter, hears_class, outstanding_of, is_acknowledged, settles_on, is_over_now, without_recovery, ends_attempt, reads_nr_on, hears_read, hears_recovery, repeats_on, is_kept_long, ticks_on, recovery_ticks}
 use Rattle.step_laws.proofs.Lists.{branch}
-use Rattle.step_laws.proofs.Quiet.{IsQuiet, told, did, dropped, caused, ended_quiet, cleared_quiet}
+use Rattle.step_laws.proofs.Quiet.{IsQuiet, told, did, dropped, caused, ended_quiet, cleared_quiet, asks_next_quiet}
 
 module _ (F : ℕ → List ℕ → Type 0) (on : Ground) (most reads : ℕ) where
   abbrev Quiet : Turn → Type 0
@@ -62,15 +62,17 @@ module _ (F : ℕ → List ℕ → Type 0) (on : Ground) (most reads : ℕ) wher
 
   -- ---- what it hears
 
-  resets_quiet : (letters : List Letter) (s : Suggested) (draw : ℕ) (r : Recovering) (t : Turn) → Quiet t → Quiet (resets_by letters s draw r t)
+  resets_quiet : (letters : List Letter) (calls : List (ℕ × Call)) (s : Suggested) (draw : ℕ) (r : Recovering) (t : Turn) → Quiet t
+      → Quiet (resets_by letters calls s draw r t)
   unfolding resets_by resets with_move
-  resets_quiet letters s draw (ByAttempt c) t h = did F on _ refl refl refl tt h
-  resets_quiet letters s draw (ByAnswer a) t h = did F on _ refl refl refl tt h
+  resets_quiet letters calls s draw (ByAttempt c) t h = did F on _ refl refl refl tt h
+  resets_quiet letters calls s draw (ByAnswer a) t h = did F on _ refl refl refl tt h
 
   follows_quiet : (letters : List Letter) (calls : List (ℕ × Call)) (p : Progress) (r : Recovering) (t : Turn) → Quiet t → QuietLine (follows letters calls p r t)
   unfolding follows
   follows_quiet letters calls progress.Waiting r t h = goes_quiet r t h
-  follows_quiet letters calls (progress.Reset s draw) r t h = goes_quiet r _ (resets_quiet letters s (unwrap_or draw 0) r t h)
+  follows_quiet letters calls (progress.Reset s draw) r t h =
+      asks_next_quiet F on most reads letters _ (goes_quiet r _ (resets_quiet letters calls s (unwrap_or draw 0) r t h))
   follows_quiet letters calls (progress.Given cause) r t h =
       cleared_quiet F on most reads calls _ (goes_quiet r (with_output (Refused cause) t) (caused F on most reads cause t h))
   follows_quiet letters calls progress.Cleared r t h = cleared_quiet F on most reads calls t h

@@ -1,5 +1,5 @@
 -- What a recovery tunnel hears is a chain of moves: it goes on, resets or clears its tunnel, and ends.
-use Rattle.std.proofs.Common.{◌≡◌, ◌⊎◌, inl, inr, ⊎_elim, ℕ, Bool, true, false, zero, List, [], ◌∷◌, ◌++◌, refl, sym, ap, ◌∙◌, subst, Option, Some, None, length, Result, Ok, Err, arith}
+use Rattle.std.proofs.Common.{◌≡◌, ◌⊎◌, inl, inr, ⊎_elim, ℕ, Bool, true, false, List, [], ◌∷◌, ◌++◌, refl, sym, ap, ◌∙◌, subst, Option, Some, None, length, Result, Ok, Err, arith}
 use Rattle.std.proofs.lemmas.Bool.{true≢false, eqb-false}
 use Rattle.std.specs.Prelude.{◌==◌, ◌&&◌, not, max, nat_lt, unwrap_or, is_some}
 use Rattle.std.specs.List.{AllByRecursion}
@@ -31,12 +31,15 @@ use Rattle.end_model.specs.declared.out.Out.TheVariants.{Drop, Cause as Refused}
 use Rattle.end_model.specs.declared.moves.Move.{Move}
 use Rattle.end_model.specs.declared.moves.Move.TheVariants as move
 use Rattle.end_model.specs.Reading.{message_in}
-use Rattle.end_model.specs.Tunnels.{Tunnel, Turn, turn_in, Recovering, ByAttempt, ByAnswer, connection_of, is_finished}
+use Rattle.end_model.specs.Tunnels.{Tunnel, Turn, turn_in, Recovering, ByAttempt, ByAnswer, connection_of, is_finished, mode_of, is_current}
 use Rattle.end_model.specs.Events.{with_calls, tunnel_after}
 use Rattle.end_model.specs.Turn.{with_output, with_move, drops}
 use Rattle.end_model.specs.Stopping.{clears}
 use Rattle.end_model.specs.Sending.{letters_after}
-use Rattle.end_model.specs.Recovering.{RecoveryTurn, with_recovery, goes, acknowledges_on, resets, resets_by, told_by, cause_in, told_by_fault, after_fault, follows, heeds, hears_class, outstanding_of, is_acknowledged, settles_on, without_recovery, ends_attempt, reads_nr_on, hears_read, hears_recovery}
+use Rattle.end_model.specs.Calls.{sessions_of}
+use Rattle.end_model.specs.Querying.{asks_next}
+use Rattle.tunnel_fsm.specs.Rows.{state_number}
+use Rattle.end_model.specs.Recovering.{RecoveryTurn, with_recovery, goes, acknowledges_on, begins_to_ask, resets, resets_by, told_by, cause_in, told_by_fault, after_fault, follows, heeds, hears_class, outstanding_of, is_acknowledged, settles_on, without_recovery, ends_attempt, reads_nr_on, hears_read, hears_recovery}
 use Rattle.end_model.specs.End.{End, env_of, after_turn}
 use Rattle.step_laws.specs.Causes.{Stands, IsRefusedOnLine}
 use Rattle.step_laws.specs.Letters.{IsRecoveryLetter, ConfirmsRecovery}
@@ -51,6 +54,9 @@ use Rattle.step_laws.proofs.Progressing.{refused_line, told_refusal, attempt_cas
 use Rattle.step_laws.proofs.Leaving.{IsStep, whole_of, whole_chain, clears_more, clears_chain, clears_is, ends_line}
 use Rattle.step_laws.proofs.OnLine.{on_channel, WholeAt, IsAlike, more_out, goes_ok, goes_went, ack_of, ack_ok, acknowledged_ok}
 use Rattle.step_laws.proofs.Ends.{begins_settled}
+use Rattle.step_laws.proofs.Queries.{new_asks, sessions_rise}
+use Rattle.step_laws.proofs.Questions.{HasSpare}
+use Rattle.step_laws.proofs.LineQuestions.{asks_whole, finished_on, waits_inactive}
 pub use Rattle.step_laws.proofs.LineConnections.{as_line, line_letter, line_current, line_channel, IsAlikeTo, alike_line, one_line, channel_letter, alike_channel, alike_after, for_line, finished_current, none_left, small_wire, stands_on_line, closed_refusal, both_same, open_refusal, fault_is, fault_cause, is_cleared, own_channel, own_alike, IsNamedBy, all_dropped}
 
 module _ (e : End) (kept : AreKept e) (moment : ℕ) (ev : Event) (block : List ℕ) (i : ℕ) (t : Tunnel) (is : at e.tunnels i ≡ Some t) where
@@ -309,10 +315,10 @@ module _ (e : End) (kept : AreKept e) (moment : ℕ) (ev : Event) (block : List 
 
   -- the turn in which the channel begins anew
   abbrev anew : Move → ℕ → ℕ → ℕ → Turn → Turn
-  anew m send_from expect mark u = with_move m (resets send_from expect mark t.letters u)
+  anew m send_from expect mark u = with_move m (resets send_from expect mark t.letters t.calls u)
 
   -- none of its letters is left
-  letters_none : (u : Turn) (send_from expect mark : ℕ) → letters_after (resets send_from expect mark t.letters u) t.letters ≡ []
+  letters_none : (u : Turn) (send_from expect mark : ℕ) → letters_after (resets send_from expect mark t.letters t.calls u) t.letters ≡ []
   unfolding resets
   letters_none u send_from expect mark = none_left t.letters
 
@@ -328,7 +334,16 @@ module _ (e : End) (kept : AreKept e) (moment : ℕ) (ev : Event) (block : List 
     outs = outs;
     tells = h.tells;
     frames = all_push _ u.moves m h.frames (no_frame_out u.outputs m frameless);
-    stays = h.stays;
+    stays = (
+      h.stays.0,
+      h.stays.1,
+      h.stays.2,
+      h.stays.3,
+      h.stays.4,
+      h.stays.5,
+      new_asks (sessions_of t.calls)
+          (sessions_rise t.calls k.calls),
+    );
     frozen = λ inactive. absurd (true≢false (sym (finished_current q finished) ∙ inactive));
     recovering = one_line e.role e.config i q says;
     held = subst (Held (opened_at (on_wire send_from) u.control.channel.window.congestion.peer_window)) (sym (none_left t.letters)) (refl, omega arith, small_wire send_from);
@@ -341,6 +356,40 @@ module _ (e : End) (kept : AreKept e) (moment : ℕ) (ev : Event) (block : List 
       f.5,
     );
   }
+
+  -- from such a turn its letters go, and then it asks for its sessions
+  module _ (m : Move) (send_from expect mark : ℕ) (u : Turn) (same : u.control.state ≡ t.control.state) (none : u.changed ≡ [])
+      (inactive : is_current (mode_of t.recovery) ≡ false) where
+    reset_open : state_number (anew m send_from expect mark u).control.state ≡ 3
+    unfolding with_move resets
+    reset_open = ap state_number same ∙ k.open_is inactive
+
+    reset_spare : (q : Recovering) → HasSpare e moment ev t.letters t.calls (Some q) i (anew m send_from expect mark u)
+    unfolding with_move resets with_calls
+    reset_spare q = let owed = k.owed (k.open_is inactive) in rw none (omega (arith, owed))
+
+    asks_leads : (class : Option Class) (before : ℕ) (d : Recovering) (channel : Channel) → is_finished d ≡ true
+        → ((other : Channel) → AllByRecursion (IsRecoveryLetter e.role e.config i d) other.outbox.letters → W (Some (on_channel other d))
+        (anew m send_from expect mark u))
+        → AllByRecursion (IsRecoveryLetter e.role e.config i d) channel.outbox.letters
+        → leads (let g = begins_to_ask t.letters (goes (on_channel channel d) (anew m send_from expect mark u)) in
+        ended class before g.recovery g.turn)
+    asks_leads class before d channel finished whole says =
+        let v = anew m send_from expect mark u in
+        let g = goes (on_channel channel d) v in
+        let w = goes_went e kept moment ev t.letters t.calls i k.some d channel v in
+        let q = on_channel w.channel d in
+        let says_then = subst (AllByRecursion (IsRecoveryLetter e.role e.config i d)) (sym w.holds) says in
+        let gone = goes_ok e kept moment ev t.letters t.calls i k.some q d channel v (alike_channel w.channel channel d)
+        (all_map (IsRecoveryLetter e.role e.config i d) (IsRecoveryLetter e.role e.config i q) (channel_letter e.role e.config i w.channel d) channel.outbox.letters says)
+        (whole w.channel says_then) in
+        let still : state_number g.turn.control.state ≡ 3 = ap (λ (x : Turn). state_number x.control.state) w.only ∙ reset_open in
+        let spare : HasSpare e moment ev t.letters t.calls (Some q) i g.turn =
+        subst (HasSpare e moment ev t.letters t.calls (Some q) i) (sym w.only) (reset_spare q) in
+        let asked = asks_whole e kept moment ev t.letters t.calls i k.some q gone.recovering
+        (finished_on w.channel d finished) g.turn still spare gone in
+        subst (λ o. leads (ended class before o (asks_next t.letters g.turn))) (sym w.is)
+        (finish class before q (asks_next t.letters g.turn) asked)
 
   -- ---- an attempt takes a letter
 
@@ -438,7 +487,7 @@ module _ (e : End) (kept : AreKept e) (moment : ℕ) (ev : Event) (block : List 
 
       attempt_anew : (channel : Channel) → AllByRecursion (IsRecoveryLetter e.role e.config i (ByAttempt cf)) channel.outbox.letters
           → W (Some (on_channel channel (ByAttempt cf))) (anew attempt_move s.ns s.nr (max t.control.mark draw) begun)
-      unfolding with_move resets
+      unfolding with_move resets with_calls
       attempt_anew channel says =
           let old = kept_line r0 has letter comes read_line in
           let q = on_channel channel (ByAttempt cf) in
@@ -472,7 +521,10 @@ module _ (e : End) (kept : AreKept e) (moment : ℕ) (ev : Event) (block : List 
 
       attempt_resets : P (progress.Reset s o.attempt) cf
       unfolding follows resets_by with_move
-      attempt_resets = gone_leads r0 has letter comes (Some Next) before (ByAttempt cf) cf.channel (anew attempt_move s.ns s.nr (max t.control.mark draw) begun) attempt_anew attempt_says
+      attempt_resets =
+          asks_leads attempt_move s.ns s.nr (max t.control.mark draw) begun refl refl
+          (ap (λ (o : Option Recovering). is_current (mode_of o)) has ∙ waits_inactive (ByAttempt c0) waits)
+          (Some Next) before (ByAttempt cf) cf.channel refl attempt_anew attempt_says
 
     attempt_clears : (m : Message) → message_in letter.body ≡ Ok m → told_to_attempt e.config.secret m (record c0 { channel = read_line; remote = c0.remote }) ≡ progress.Cleared
         → P progress.Cleared ct
@@ -606,7 +658,7 @@ module _ (e : End) (kept : AreKept e) (moment : ℕ) (ev : Event) (block : List 
 
       answer_anew : (channel : Channel) → AllByRecursion (IsRecoveryLetter e.role e.config i (ByAnswer af)) channel.outbox.letters
           → W (Some (on_channel channel (ByAnswer af))) (anew answer_move s1.nr s1.ns t.control.mark begun_answer)
-      unfolding with_move resets
+      unfolding with_move resets with_calls
       answer_anew channel says =
           let old = kept_line r1 has letter comes read_answer in
           let q = on_channel channel (ByAnswer af) in
@@ -637,7 +689,9 @@ module _ (e : End) (kept : AreKept e) (moment : ℕ) (ev : Event) (block : List 
       answer_resets : Q (progress.Reset s1 None) af
       unfolding follows resets_by with_move
       answer_resets =
-          gone_leads r1 has letter comes (Some Next) before (ByAnswer af) af.connection.channel (anew answer_move s1.nr s1.ns t.control.mark begun_answer) answer_anew
+          asks_leads answer_move s1.nr s1.ns t.control.mark begun_answer refl refl
+          (ap (λ (o : Option Recovering). is_current (mode_of o)) has ∙ waits_inactive (ByAnswer a0) waits)
+          (Some Next) before (ByAnswer af) af.connection.channel refl answer_anew
           (all_map (IsRecoveryLetter e.role e.config i r1) (IsRecoveryLetter e.role e.config i (ByAnswer af)) answer_letter read_answer.outbox.letters says1)
 
     answer_message : (m : Message) → message_in letter.body ≡ Ok m → Q (told_to_answer e.config.secret m at1) (answer_after e.config.secret moment m at1)

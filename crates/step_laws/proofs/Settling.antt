@@ -8,6 +8,7 @@ use Rattle.id_table.specs.Ids.{put-put}
 use Rattle.wire_base.specs.declared.letter.Letter.{Letter}
 use Rattle.send_window.specs.Kept.{Window}
 use Rattle.send_window.specs.Window as window
+use Rattle.tunnel_fsm.specs.Rows.{state_number}
 use Rattle.control_channel.specs.Numbers.{Numbers, next_to_go, next_unsent, let_go_at}
 use Rattle.end_names.specs.declared.role.Role.{Role}
 use Rattle.end_model.specs.declared.tunnel.Config.{Config}
@@ -144,9 +145,9 @@ module _ (e : End) (moment : ℕ) (ev : Event) (letters : List Letter) (calls : 
   abbrev tunnel : Turn → Tunnel
   tunnel t = tunnel_after t letters calls recovery
 
-  -- its channel carries messages, or it is frozen, and the turn has taken nothing
+  -- its channel carries messages, or it is frozen, and the turn of the open tunnel has taken nothing
   abbrev pub Goes : Turn → Type 0
-  Goes t = IsCurrent recovery ⊎ ((t.control.channel.frozen ≡ true) × (t.took ≡ false))
+  Goes t = IsCurrent recovery ⊎ ((t.control.channel.frozen ≡ true) × (t.took ≡ false) × (state_number t.control.state ≡ 3))
 
   -- a turn, with what it sent
   pub record Settled (t : Turn) : Type 0 where
@@ -186,7 +187,9 @@ module _ (e : End) (moment : ℕ) (ev : Event) (letters : List Letter) (calls : 
   -- where a letter goes the channel carries messages
   going_current : (number : ℕ) (t : Turn) → next_to_go t.control.channel ≡ Some number → Goes t → IsCurrent recovery
   going_current number t goes h =
-      ⊎_elim (λ current. current) (λ (k : (t.control.channel.frozen ≡ true) × (t.took ≡ false)). absurd (frozen_none t.control.channel t.on.moment number k.0 goes)) h
+      ⊎_elim (λ current. current)
+      (λ (k : (t.control.channel.frozen ≡ true) × (t.took ≡ false) × (state_number t.control.state ≡ 3)). absurd
+      (frozen_none t.control.channel t.on.moment number k.0 goes)) h
 
   counted_ok : (number : ℕ) (t : Turn) → next_to_go t.control.channel ≡ Some number → Settled t → Settled (counted number t)
   unfolding with_move
@@ -294,7 +297,8 @@ module _ (e : End) (moment : ℕ) (ev : Event) (letters : List Letter) (calls : 
   taken_current true before t may goes is = may refl
   taken_current false before t may goes is =
       ⊎_elim (λ current. current)
-      (λ (k : (t.control.channel.frozen ≡ true) × (t.took ≡ false)). absurd (true≢false (sym (and_left t.took _ is) ∙ k.1))) goes
+      (λ (k : (t.control.channel.frozen ≡ true) × (t.took ≡ false) × (state_number t.control.state ≡ 3)). absurd
+      (true≢false (sym (and_left t.took _ is) ∙ k.1))) goes
 
   acknowledged_ok : (again : Bool) (before : ℕ) (t : Turn) → (again ≡ true → IsCurrent recovery) → Settled t → Settled (acknowledged_after again before t)
   unfolding acknowledged_after

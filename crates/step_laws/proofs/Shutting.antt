@@ -79,11 +79,11 @@ unfolding with_looks
 with_looks-append [] ys places = refl
 with_looks-append (x ∷ xs) ys places = with_looks-append xs ys (with_look x places)
 
-gone_words : (ss : List ℕ) → AllByRecursion IsWord (map Gone ss)
+pub gone_words : (ss : List ℕ) → AllByRecursion IsWord (map Gone ss)
 gone_words [] = tt
 gone_words (s ∷ ss) = (tt, gone_words ss)
 
-gone_tells : (e : End) (moment : ℕ) (ev : Event) (ss : List ℕ) → AllByRecursion (Tells e moment ev) (map Gone ss)
+pub gone_tells : (e : End) (moment : ℕ) (ev : Event) (ss : List ℕ) → AllByRecursion (Tells e moment ev) (map Gone ss)
 gone_tells e moment ev [] = tt
 gone_tells e moment ev (s ∷ ss) = (tt, gone_tells e moment ev ss)
 
@@ -133,7 +133,7 @@ module _ (e : End) (moment : ℕ) (ev : Event) (letters : List Letter) (calls : 
         words = all_append IsWord outs _ (all_push IsWord t.outputs (Cause r.cause) h.words tt) (gone_words (ids_of calls));
         tells = all_append _ outs _ (all_push _ t.outputs (Cause r.cause) h.tells so) (gone_tells e moment ev (ids_of calls));
         frames = all_push NoFrame t.moves m h.frames tt;
-        stays = (h.stays.0, (λ z. absurd (omega (arith, z))), h.stays.2, h.stays.3, h.stays.4, h.stays.5, h.stays.6);
+        stays = (h.stays.0, (λ z. absurd (omega (arith, z))), h.stays.2, h.stays.3, h.stays.4, h.stays.5, h.stays.6, h.stays.7);
         current = h.current;
         held = given_held e moment ev letters calls recovery i t l h.held;
         fits = rw (none, none_left calls) (fits_last t.control remote t.on.moment room);
@@ -143,7 +143,7 @@ module _ (e : End) (moment : ℕ) (ev : Event) (letters : List Letter) (calls : 
   rejected_ok : (r : Reason) → Stands e moment ev r.cause → (on : TunnelEvent) (remote : ℕ) (t : Turn) → t.changed ≡ []
       → row_of rows t.control.state on ≡ (state.Closed, action.SendStopCcn) → state_number t.control.state ≡ 1 → (k : Came)
       → IsNext ev (tunnel t) k → may_take t.control (with_calls t.changed calls) ≡ true
-      → LetterCloses e.config.secret t.control k on remote r.result r.error → has_room t.control ≡ true
+      → LetterCloses e.config.secret t.control t.query k on remote r.result r.error → has_room t.control ≡ true
       → TurnOk e moment ev letters calls recovery i t → TurnOk e moment ev letters calls recovery i (rejected r calls remote state.Closed t)
   unfolding rejected shuts gives with_output with_move with_calls takes_one
   rejected_ok r so on remote t none row waits k next spare why room h =
@@ -179,7 +179,7 @@ module _ (e : End) (moment : ℕ) (ev : Event) (letters : List Letter) (calls : 
         words = all_append IsWord outs _ (all_push IsWord t.outputs (Cause r.cause) h.words tt) (gone_words (ids_of calls));
         tells = all_append _ outs _ (all_push _ t.outputs (Cause r.cause) h.tells so) (gone_tells e moment ev (ids_of calls));
         frames = all_push NoFrame t.moves m h.frames tt;
-        stays = (h.stays.0, (λ z. absurd (omega (arith, z))), h.stays.2, h.stays.3, h.stays.4, h.stays.5, h.stays.6);
+        stays = (h.stays.0, (λ z. absurd (omega (arith, z))), h.stays.2, h.stays.3, h.stays.4, h.stays.5, h.stays.6, h.stays.7);
         current = h.current;
         held = given_held e moment ev letters calls recovery i t l h.held;
         fits = rw (none, none_left calls) (fits_last (counts_taken t.control) remote t.on.moment room);
@@ -189,7 +189,7 @@ module _ (e : End) (moment : ℕ) (ev : Event) (letters : List Letter) (calls : 
   pub rejects_ok : (r : Reason) → Stands e moment ev r.cause → (on : TunnelEvent) (remote : ℕ) (t : Turn) → t.changed ≡ []
       → is_closed t.control.state ≡ false → row_of rows t.control.state on ≡ (state.Closed, action.SendStopCcn) → state_number t.control.state ≡ 1
       → (k : Came) → IsNext ev (tunnel t) k → may_take t.control (with_calls t.changed calls) ≡ true
-      → LetterCloses e.config.secret t.control k on remote r.result r.error
+      → LetterCloses e.config.secret t.control t.query k on remote r.result r.error
       → TurnOk e moment ev letters calls recovery i t → TurnOk e moment ev letters calls recovery i (rejects r calls remote state.Closed t)
   unfolding rejects
   rejects_ok r so on remote t none live row waits k next spare why h =
@@ -233,7 +233,7 @@ module _ (e : End) (moment : ℕ) (ev : Event) (letters : List Letter) (calls : 
         words = all_append IsWord t.outputs _ h.words (gone_words (ids_of calls));
         tells = all_append _ t.outputs _ h.tells (gone_tells e moment ev (ids_of calls));
         frames = all_push NoFrame t.moves m h.frames tt;
-        stays = (h.stays.0, (λ z. absurd (omega (arith, z))), h.stays.2, h.stays.3, h.stays.4, h.stays.5, h.stays.6);
+        stays = (h.stays.0, (λ z. absurd (omega (arith, z))), h.stays.2, h.stays.3, h.stays.4, h.stays.5, h.stays.6, h.stays.7);
         current = h.current;
         held = h.held;
         fits = rw (none, none_left calls) (fits_shut (counts_taken t.control) t.control.remote t.on.moment (with_calls t.changed calls) h.fits);

@@ -19,6 +19,7 @@ use Rattle.step_laws.specs.Callers.{wanted_by_lac}
 use Rattle.step_laws.specs.Moves.{Does, Chain, finished_of}
 use Rattle.step_laws.specs.Left.{CanBe, AreSound, CallsStaySound}
 use Rattle.step_laws.specs.Steps.{AreKept, StepsAreChains, IsOfNoStart}
+use Rattle.step_laws.specs.Queries.{without_each}
 use Rattle.step_laws.proofs.States.{never, requested_state, rung_state, connected_state, up_state}
 use Rattle.step_laws.proofs.Turns.{last_after, small_draw}
 use Rattle.step_laws.proofs.Ups.{steps_are_no_starts}
@@ -76,6 +77,10 @@ whole_without r calls k h = record {
   order = ascends-without k calls h.order;
   sound = λ s c there. h.sound s c (found_without calls k s c h.order there).1;
 }
+
+whole_each : (r : Role) (ss : List ℕ) (calls : List (ℕ × Call)) → IsWhole r calls → IsWhole r (without_each ss calls)
+whole_each r [] calls h = h
+whole_each r (s ∷ ss) calls h = whole_each r ss (without calls s) (whole_without r calls s h)
 
 -- those that are established
 whole_finished : (r : Role) (calls : List (ℕ × Call)) → IsWhole r calls → IsWhole r (finished_of calls)
@@ -172,6 +177,10 @@ module _ (e : End) (whole : AreWhole e) where
   does_whole moment ev (move.Froze m) x so h = puts x _ m.tunnel _ h.after refl refl refl (whole_finished e.role h.tunnel.calls (whole.calls m.tunnel h.tunnel h.there))
   does_whole moment ev (move.ResetAttempting m) x so h = puts x _ m.tunnel _ h.after refl refl refl (whole.calls m.tunnel h.tunnel h.there)
   does_whole moment ev (move.ResetAnswering m) x so h = puts x _ m.tunnel _ h.after refl refl refl (whole.calls m.tunnel h.tunnel h.there)
+  does_whole moment ev (move.Queried m) x so h = puts x _ m.tunnel _ h.after refl refl refl (whole.calls m.tunnel h.tunnel h.there)
+  does_whole moment ev (move.AnsweredQuery m) x so h = puts x _ m.tunnel _ h.after refl refl refl (whole.calls m.tunnel h.tunnel h.there)
+  does_whole moment ev (move.TookAnswer m) x so h =
+      puts x _ m.tunnel _ h.after refl refl refl (whole_each e.role m.ended h.tunnel.calls (whole.calls m.tunnel h.tunnel h.there))
   does_whole moment ev (move.RecoveryWentOn i) x so h = puts x _ i _ h.after refl refl refl (whole.calls i h.tunnel h.there)
   does_whole moment ev (move.RecoveryEnded i) x so h = puts x _ i _ h.after refl refl refl (whole.calls i h.tunnel h.there)
   does_whole moment ev (move.Ignored i) x so h = puts x _ i _ h.after refl refl refl (whole.calls i h.tunnel h.there)
@@ -211,6 +220,9 @@ does_role moment ev e x (move.Forgot m) h = ap (λ (y : End). y.role) h.after
 does_role moment ev e x (move.Froze m) h = ap (λ (y : End). y.role) h.after
 does_role moment ev e x (move.ResetAttempting m) h = ap (λ (y : End). y.role) h.after
 does_role moment ev e x (move.ResetAnswering m) h = ap (λ (y : End). y.role) h.after
+does_role moment ev e x (move.Queried m) h = ap (λ (y : End). y.role) h.after
+does_role moment ev e x (move.AnsweredQuery m) h = ap (λ (y : End). y.role) h.after
+does_role moment ev e x (move.TookAnswer m) h = ap (λ (y : End). y.role) h.after
 does_role moment ev e x (move.RecoveryWentOn i) h = ap (λ (y : End). y.role) h.after
 does_role moment ev e x (move.RecoveryEnded i) h = ap (λ (y : End). y.role) h.after
 does_role moment ev e x (move.Ignored i) h = ap (λ (y : End). y.role) h.after

@@ -63,6 +63,7 @@ use Rattle.step_laws.specs.Links.{ToOpen}
 use Rattle.call_fsm.specs.declared.table.CallState.TheVariants as call
 use Rattle.step_laws.proofs.Untold.{TellsIn, killed_by, negotiated_still}
 use Rattle.step_laws.proofs.LineParts.{goes_still}
+use Rattle.step_laws.proofs.Queries.{none_asks}
 
 -- ---- the calls that come back
 
@@ -273,8 +274,8 @@ module _ (e : End) (kept : AreKept e) (moment : ℕ) (ev : Event) (block : List 
         outs = tt;
         tells = tt;
         frames = (tt, tt);
-        stays = (refl, (λ z. absurd (omega (arith, z))), kept.sessions, next_after e.tunnel_ids kept.first, refl, refl);
-        frozen = λ inactive. refl;
+        stays = (refl, (λ z. absurd (omega (arith, z))), kept.sessions, next_after e.tunnel_ids kept.first, refl, refl, none_asks);
+        frozen = λ inactive. (refl, refl);
         recovering = one_line e.role e.config i q (all_map (IsRecoveryLetter e.role e.config i (ByAttempt attempt)) (IsRecoveryLetter e.role e.config i q) (channel_letter e.role e.config i channel (ByAttempt attempt)) channel.outbox.letters says);
         held = (refl, omega arith, omega arith);
         fits = rw calls (
@@ -333,8 +334,8 @@ module _ (e : End) (kept : AreKept e) (moment : ℕ) (ev : Event) (block : List 
       outs = h.outs;
       tells = h.tells;
       frames = h.frames;
-      stays = (h.stays.0, h.stays.1, h.stays.2, h.stays.3, h.stays.4, h.stays.5, refl);
-      goes = inr (h.frozen refl, took);
+      stays = (h.stays.0, h.stays.1, h.stays.2, h.stays.3, h.stays.4, h.stays.5, refl, h.stays.6);
+      goes = inr (let frozen = h.frozen refl in (frozen.0, took, frozen.1));
       held = h.held;
       fits = h.fits;
     }

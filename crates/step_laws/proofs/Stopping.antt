@@ -5,6 +5,7 @@ use Rattle.std.specs.Prelude.{◌==◌}
 use Rattle.id_table.specs.Ids.{ids_of}
 use Rattle.wire_base.specs.declared.why.Why.{Why as WhyOf}
 use Rattle.wire_base.specs.declared.letter.Letter.{Letter}
+use Rattle.wire_base.specs.declared.pair.Pair.{Pair}
 use Rattle.control_message.specs.declared.message.Message.{Message}
 use Rattle.control_message.specs.declared.message.Message.TheVariants.{Sccrq, Sccrp, Scccn, StopCcn, Hello, Ocrq, Ocrp, Occn, Icrq, Icrp, Iccn, Cdn, Wen, Sli, Fsq, Fsr}
 use Rattle.control_message.specs.declared.message.Opening.{Opening}
@@ -19,7 +20,8 @@ use Rattle.end_model.specs.declared.tunnel.Call.{Call}
 use Rattle.end_model.specs.declared.event.Event.{Event}
 use Rattle.end_model.specs.Reading.{message_in, CallFault, call_fault_in, TunnelFault, tunnel_fault_in}
 use Rattle.end_model.specs.Tunnels.{Tunnel, Turn, Recovering}
-use Rattle.end_model.specs.Reasons.{Reason, out_of_order, fault_reason, no_secret}
+use Rattle.end_model.specs.Reasons.{Reason, out_of_order, not_asked, fault_reason, no_secret}
+use Rattle.end_model.specs.Querying.{told_at}
 use Rattle.end_model.specs.Moments.{is_closed}
 use Rattle.end_model.specs.Messages.{is_acceptable, event_by, opening_reason, Told, tells_id, told_by}
 use Rattle.end_model.specs.Turn.{with_output, with_move}
@@ -32,7 +34,7 @@ use Rattle.end_model.specs.End.{End}
 use Rattle.end_model.specs.Secrets.{is_wrong}
 use Rattle.step_laws.specs.Causes.{IsClosedOn, InSccrq, InSccrp, AnSccrq, AnSccrp, AnScccn, AsksInVain, AnswersWrongly, Stands}
 use Rattle.step_laws.proofs.Secrets.{right_of, wrong_of, right_if_unasked}
-use Rattle.step_laws.specs.Moves.{Came, IsNext, LetterCloses, ByLetter, HearsNext, IsPlain, SaysStop, BySccrq, BySccrp, ByScccn, ByFault, WronglyConnected, ComesUnawaited}
+use Rattle.step_laws.specs.Moves.{Came, IsNext, LetterCloses, ByLetter, HearsNext, IsPlain, SaysStop, BySccrq, BySccrp, ByScccn, ByUnasked, ByFault, WronglyConnected, ComesUnawaited}
 use Rattle.step_laws.proofs.Faults.{IsEventOfFault, of_tunnel, closing_stands}
 use Rattle.step_laws.proofs.Turns.{TurnOk, PlainAt, at_turn, is_roomy, plain_ok}
 use Rattle.step_laws.proofs.Lists.{branch}
@@ -158,8 +160,8 @@ closed_plain x u session m closed = by (eqb-true (state_number u.control.state) 
     by four (Cdn remote code error) = λ n. absurd (omega (arith, four, n))
     by four Wen = tt
     by four Sli = tt
-    by four (Fsq sessions) = tt
-    by four (Fsr sessions) = tt
+    by four (Fsq sessions) = λ n. omega (arith, four, n)
+    by four (Fsr sessions) = closed
 
 module _ (e : End) (moment : ℕ) (ev : Event) (letters : List Letter) (calls : List (ℕ × Call)) (recovery : Option Recovering) (i : ℕ) where
   abbrev Good : Turn → Type 0
@@ -218,7 +220,7 @@ module _ (e : End) (moment : ℕ) (ev : Event) (letters : List Letter) (calls : 
 
   -- why a letter closes it
   abbrev WhyLetter : Turn → Came → TunnelEvent → Reason → ℕ → Type 0
-  WhyLetter t k on r told = LetterCloses e.config.secret t.control k on told r.result r.error
+  WhyLetter t k on r told = LetterCloses e.config.secret t.control t.query k on told r.result r.error
 
   -- where it waits for its SCCRP the id that is told is learned; else the tunnel is closed, and then the letter is taken
   shuts_ok : (r : Reason) → Stands e moment ev r.cause → (on : TunnelEvent) (says : Told) (t : Turn) → Takes t
@@ -318,6 +320,23 @@ module _ (e : End) (moment : ℕ) (ev : Event) (letters : List Letter) (calls : 
         })) in
         shuts_ok no_secret so event.ScccnNotAcc (tells_id 0) t f
         hears.letter hears.next row (ByScccn response hears.says.said refl (WronglyConnected wrong refl refl refl))
+
+  -- ---- answers that weren't asked for
+
+  pub unasked_ok : (session : ℕ) (answers : List Pair) (place : ℕ) (t : Turn) → Takes t → HearsNext ev (now_at t) session (Fsr answers)
+      → told_at t.control.state t.query answers ≡ Err place
+      → Good (takes_by e.role e.config calls not_asked (tells_id 0) (row_of rows t.control.state event.AdminClose) t)
+  unasked_ok session answers place t f hears differs =
+      let row = row_shut t.control.state event.AdminClose (busy t f) f.live tt in
+      shuts_ok not_asked (record {
+        tunnel = begun_at t f;
+        session = session;
+        answers = answers;
+        came = came_in t f session (Fsr answers) hears;
+        place = place;
+        differs = ap (λ s. told_at s t.query answers) f.fresh.state ∙ differs;
+        closed = shut_on t f event.AdminClose row;
+      }) event.AdminClose (tells_id 0) t f hears.letter hears.next row (ByUnasked answers place hears.says.said differs refl refl refl refl)
 
   -- ---- StopCCNs
 

@@ -17,14 +17,13 @@ use Rattle.l2tp_header.specs.declared.header.HeaderError.TheVariants as header
 use Rattle.control_message.specs.declared.message.Read.{Read}
 use Rattle.control_message.specs.declared.message.Read.TheVariants.{Known, Ignored}
 use Rattle.control_message.specs.declared.message.MessageError.{MessageError}
-use Rattle.control_message.specs.Reading.{message_of}
 use Rattle.call_fsm.specs.declared.table.CallEvent.TheVariants as call_event
 use Rattle.end_model.specs.declared.event.Event.{Event}
 use Rattle.end_model.specs.declared.tunnel.Call.{Call}
 use Rattle.end_model.specs.declared.out.Out.{Out}
 use Rattle.end_model.specs.declared.out.Out.TheVariants.{Send, Up, Gone, Drop, Cause}
 use Rattle.session_looks.specs.Frames.{header_why}
-use Rattle.end_model.specs.Reading.{message_read, pairs_read, message_in}
+use Rattle.end_model.specs.Reading.{message_read, pairs_read, message_in, message_said}
 use Rattle.end_model.specs.Calls.{row_of_none, is_reply, are_too_many}
 use Rattle.end_model.specs.Tunnels.{Tunnel}
 use Rattle.end_model.specs.Reasons.{Reason, reason, out_of_state}
@@ -69,7 +68,7 @@ message_other (Err x) w h q = absurd cc
 
 pairs_other : (r : Result (List Avp) AvpError) (w : Why) → pairs_read r ≡ Err w → w ≡ why.Queue → ⊥
 unfolding pairs_read
-pairs_other (Ok avps) w h q = message_other (message_of avps) w h q
+pairs_other (Ok avps) w h q = message_other (message_said avps) w h q
 pairs_other (Err x) w h q = absurd cc
 
 pub body_other : (body : List ℕ) (w : Why) → message_in body ≡ Err w → w ≡ why.Queue → ⊥

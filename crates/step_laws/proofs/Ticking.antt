@@ -23,7 +23,7 @@ use Rattle.call_link.specs.Laws.{LinkStep, turn_at}
 use Rattle.end_model.specs.declared.event.Event.TheVariants.{Tick}
 use Rattle.end_model.specs.declared.moves.Move.TheVariants as move
 use Rattle.end_model.specs.Calls.{row_for, is_set_up, is_up}
-use Rattle.end_model.specs.Tunnels.{Tunnel, Turn, Recovering, is_current, new_tunnel}
+use Rattle.end_model.specs.Tunnels.{Tunnel, Turn, Recovering, is_current, new_tunnel, Asking}
 use Rattle.end_model.specs.Turn.{with_move}
 use Rattle.end_model.specs.Events.{with_calls, tunnel_after}
 use Rattle.end_model.specs.Channels.{has_room, place, next_place, letter_of, counts_repeated}
@@ -128,7 +128,8 @@ module _ (e : End) (moment : ℕ) (letters : List Letter) (calls : List (ℕ × 
       → IsCurrent recovery
   repeated_current number t due h =
       ⊎_elim (λ current. current)
-      (λ (k : (t.control.channel.frozen ≡ true) × (t.took ≡ false)). absurd (frozen_none t.control.channel moment number k.0 due)) h.goes
+      (λ (k : (t.control.channel.frozen ≡ true) × (t.took ≡ false) × (state_number t.control.state ≡ 3)). absurd
+      (frozen_none t.control.channel moment number k.0 due)) h.goes
 
   repeated_ok : (number : ℕ) (t : Turn) → answer_to_tick t.control.channel moment ≡ tick.Again number → Settled e moment Tick letters calls recovery i t
       → Settled e moment Tick letters calls recovery i (repeated number t)
@@ -256,9 +257,11 @@ module _ (e : End) (moment : ℕ) (letters : List Letter) (calls : List (ℕ × 
 
   -- ---- calls that take too long, of the tunnel that is there
 
-  module _ (first : Control) (is_there : at e.tunnels i ≡ Some (record (new_tunnel first) { letters = letters; calls = calls; recovery = recovery })) where
+  module _ (first : Control) (asks : Asking)
+      (is_there : at e.tunnels i ≡ Some
+      (record (new_tunnel first) { letters = letters; calls = calls; recovery = recovery; query = asks })) where
     abbrev begun : Tunnel
-    begun = record (new_tunnel first) { letters = letters; calls = calls; recovery = recovery }
+    begun = record (new_tunnel first) { letters = letters; calls = calls; recovery = recovery; query = asks }
 
     limited : (s : ℕ) (c : Call) (t : Turn) → at calls s ≡ Some c → at (with_calls t.changed calls) s ≡ Some c → TookTooLong Tick moment c → is_set_up c.state ≡ true → s < 65536 → Ticking t
         → Limited s t (settles false letters (ends_by cause.Setup 10 None s c (row_for e.role c call_event.Close).1 t))

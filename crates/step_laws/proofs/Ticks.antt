@@ -258,10 +258,11 @@ module _ (e : End) (kept : AreKept e) (moment : ℕ) (block : List ℕ) (i : ℕ
 
   ticks_by_lead : (a : Due) → answer_to_tick t.control.channel moment ≡ a → leads_by (ticks_by e.role t.letters t.calls a start)
   unfolding ticks_by
-  ticks_by_lead Quiet due = with_line _ (quietly_ok e moment t.letters t.calls t.recovery i t.control is k.calls start refl begun)
+  ticks_by_lead Quiet due = with_line _ (quietly_ok e moment t.letters t.calls t.recovery i t.control t.query is k.calls start refl begun)
   ticks_by_lead (Again number) due =
       with_line _
-      (quietly_ok e moment t.letters t.calls t.recovery i t.control is k.calls (repeats t.letters number start) (repeated_changed e moment t.letters t.calls t.recovery i number start refl)
+      (quietly_ok e moment t.letters t.calls t.recovery i t.control t.query is k.calls (repeats t.letters number start)
+      (repeated_changed e moment t.letters t.calls t.recovery i number start refl)
       (repeats_ok e moment t.letters t.calls t.recovery i number start due begun))
   ticks_by_lead (Failed first) due = cleared_leads (IsUnanswered (given_up moment t.control.channel first due))
 
@@ -279,10 +280,11 @@ module _ (e : End) (kept : AreKept e) (moment : ℕ) (block : List ℕ) (i : ℕ
   unfolding ticks_by
   whole_by Quiet due stays =
       whole_of e kept moment Tick t.letters t.calls t.recovery i k.some _ k.recovering
-      (quietly_ok e moment t.letters t.calls t.recovery i t.control is k.calls start refl begun).settled
+      (quietly_ok e moment t.letters t.calls t.recovery i t.control t.query is k.calls start refl begun).settled
   whole_by (Again number) due stays =
       whole_of e kept moment Tick t.letters t.calls t.recovery i k.some _ k.recovering
-      (quietly_ok e moment t.letters t.calls t.recovery i t.control is k.calls (repeats t.letters number start) (repeated_changed e moment t.letters t.calls t.recovery i number start refl)
+      (quietly_ok e moment t.letters t.calls t.recovery i t.control t.query is k.calls (repeats t.letters number start)
+      (repeated_changed e moment t.letters t.calls t.recovery i number start refl)
       (repeats_ok e moment t.letters t.calls t.recovery i number start due begun)).settled
   whole_by (Failed first) due stays = absurd (true≢false (sym (is_cleared t.calls start) ∙ stays))
 

@@ -1,6 +1,6 @@
 -- Each part of a turn is a move, from the end as the turn has it so far.
 use Rattle.step_laws.specs.Callers.{IsRing, WantsTunnel, LacWants, wanted_by_lac}
-use Rattle.std.proofs.Common.{◌≡◌, ◌⊎◌, inl, inr, ℕ, ◌+◌, ◌-◌, ◌<◌, Bool, true, false, List, [], ◌∷◌, ◌++◌, refl, sym, ap, ◌∙◌, subst, Option, Some, None, Ok, arith}
+use Rattle.std.proofs.Common.{◌≡◌, ◌⊎◌, inl, inr, ℕ, ◌<◌, Bool, true, false, List, [], ◌∷◌, ◌++◌, refl, sym, ap, ◌∙◌, subst, Option, Some, None, Ok, arith}
 use Rattle.std.proofs.lemmas.List.{append-nil, append_assoc}
 use Rattle.std.specs.List.{AllByRecursion}
 use Rattle.std.specs.Prelude.{nat_lt, drop, ◌==◌}
@@ -52,6 +52,7 @@ use Rattle.end_model.specs.End.{End, placed, with_looks}
 use Rattle.step_laws.specs.Causes.{Stands}
 use Rattle.call_link.specs.Link.{new_link}
 use Rattle.step_laws.specs.Moves.{IsRight, Chain, Came, IsNext, HearsNext, IsPlain, TellsNr, WhyRefused}
+use Rattle.step_laws.specs.Queries.{IsQuery}
 use Rattle.step_laws.proofs.Granting.{grants_is}
 use Rattle.step_laws.proofs.States.{rung_asks}
 use Rattle.step_laws.proofs.Lists.{all_push, branch, with_calls-more, with_looks-more, placed-more, chain_more}
@@ -91,7 +92,7 @@ module _ (window : ℕ) (c : Control) where
 abbrev pub Stays : Option Recovering → ℕ → ℕ → Turn → Type 0
 Stays recovery i moment t =
     (t.control.local ≡ i) × (state_number t.control.state ≡ 0 → ⊥) × (t.ids.sessions.last < 65536) × (0 < t.ids.tunnels.next)
-    × (t.on.moment ≡ moment) × (t.cleared ≡ false) × (t.on.mode ≡ mode_of recovery)
+    × (t.on.moment ≡ moment) × (t.cleared ≡ false) × (t.on.mode ≡ mode_of recovery) × IsQuery t.query
 
 -- its channel carries messages
 abbrev pub IsCurrent : Option Recovering → Type 0
@@ -340,7 +341,7 @@ module _ (e : End) (moment : ℕ) (ev : Event) (letters : List Letter) (calls : 
         words = h.words;
         tells = h.tells;
         frames = all_push NoFrame t.moves _ h.frames tt;
-        stays = (h.stays.0, h.stays.1, small_last t h.stays.2, h.stays.3, h.stays.4, h.stays.5, h.stays.6);
+        stays = (h.stays.0, h.stays.1, small_last t h.stays.2, h.stays.3, h.stays.4, h.stays.5, h.stays.6, h.stays.7);
         current = h.current;
         held = h.held;
         fits = fits_live (adds e.role who s t).control (with_calls (adds e.role who s t).changed calls)
@@ -367,7 +368,7 @@ module _ (e : End) (moment : ℕ) (ev : Event) (letters : List Letter) (calls : 
         words = h.words;
         tells = h.tells;
         frames = all_push NoFrame _ _ (all_push NoFrame t.moves _ h.frames tt) tt;
-        stays = (h.stays.0, h.stays.1, small_last t h.stays.2, h.stays.3, h.stays.4, h.stays.5, h.stays.6);
+        stays = (h.stays.0, h.stays.1, small_last t h.stays.2, h.stays.3, h.stays.4, h.stays.5, h.stays.6, h.stays.7);
         current = h.current;
         held = given_held t (letter_as 0 (request_of s c.subscriber) (hidden_request e.config t.on.block s c.subscriber)) h.held;
         fits = requested_fits s c u (live_open t.control is_open) found row (adds_fit who s t few spare (wanted_by_lac e ev t.control.peer wants) h);
@@ -426,7 +427,7 @@ module _ (e : End) (moment : ℕ) (ev : Event) (letters : List Letter) (calls : 
         words = h.words;
         tells = h.tells;
         frames = all_push NoFrame t.moves m h.frames tt;
-        stays = (h.stays.0, h.stays.1, small_last t h.stays.2, h.stays.3, h.stays.4, h.stays.5, h.stays.6);
+        stays = (h.stays.0, h.stays.1, small_last t h.stays.2, h.stays.3, h.stays.4, h.stays.5, h.stays.6, h.stays.7);
         current = h.current;
         held = given_held t (letter_of remote (Icrp s)) h.held;
         fits =
@@ -618,7 +619,17 @@ module _ (e : End) (moment : ℕ) (ev : Event) (letters : List Letter) (calls : 
         words = h.words;
         tells = h.tells;
         frames = all_push NoFrame t.moves m h.frames tt;
-        stays = (learnt_local window c ∙ h.stays.0, rw (learnt_state window c) (λ z. absurd (omega (arith, z))), h.stays.2, h.stays.3, h.stays.4, h.stays.5, h.stays.6);
+        stays = (
+          learnt_local window c ∙ h.stays.0,
+          rw (learnt_state window c)
+              (λ z. absurd (omega (arith, z))),
+          h.stays.2,
+          h.stays.3,
+          h.stays.4,
+          h.stays.5,
+          h.stays.6,
+          h.stays.7,
+        );
         current = h.current;
         held = subst (Held (sending.one_more (learns_window window c).channel.window)) (sym (one_given t l))
             (held_given (learns_window window c).channel.window (letters_after t letters) l
@@ -663,7 +674,7 @@ module _ (e : End) (moment : ℕ) (ev : Event) (letters : List Letter) (calls : 
         words = h.words;
         tells = h.tells;
         frames = all_push NoFrame t.moves m h.frames tt;
-        stays = (h.stays.0, (λ z. absurd (omega (arith, z))), h.stays.2, h.stays.3, h.stays.4, h.stays.5, h.stays.6);
+        stays = (h.stays.0, (λ z. absurd (omega (arith, z))), h.stays.2, h.stays.3, h.stays.4, h.stays.5, h.stays.6, h.stays.7);
         current = h.current;
         held = h.held;
         fits = fits_open t.control (in_state Established t.control) (with_calls t.changed calls) refl refl spare h.fits;

@@ -12,6 +12,7 @@ use Rattle.wire_base.specs.declared.why.Why.TheVariants as why
 use Rattle.wire_base.specs.declared.cause.Cause.{Cause}
 use Rattle.wire_base.specs.declared.cause.Cause.TheVariants as cause
 use Rattle.wire_base.specs.declared.letter.Letter.{Letter}
+use Rattle.wire_base.specs.declared.pair.Pair.{Pair}
 use Rattle.control_message.specs.declared.message.Message.{Message}
 use Rattle.control_message.specs.declared.message.Message.TheVariants.{Sccrq, Sccrp, Scccn, StopCcn, Hello, Ocrq, Ocrp, Occn, Icrq, Icrp, Iccn, Cdn, Wen, Sli, Fsq, Fsr}
 use Rattle.control_channel.specs.Numbers.{next_to_go}
@@ -38,6 +39,8 @@ use Rattle.end_model.specs.Turn.{with_output, with_move, with_change, with_call,
 use Rattle.end_model.specs.Openings.{with_local, opened, opens_by, opens, accepted, accepts_by, accepts, connected, confirms}
 use Rattle.end_model.specs.Sending.{gives, gives_as, sends_letter, sends_now, lets_go, goes_by, lets_all_go, acknowledges, outstanding, acknowledged_after, settles, takes_one, takes_plain, ignores, repeats, reads_nr}
 use Rattle.end_model.specs.Channels.{has_room, may_take}
+use Rattle.end_model.specs.Querying.{answered_query, answers_query, asks_more, asks_next, queries, queries_by}
+use Rattle.session_query.specs.Queries.{next_batch}
 use Rattle.end_model.specs.Ringing.{requested, requests, requests_at, requests_all, adds, rings_over, rings_by, rings_new, rings, rings_within}
 use Rattle.end_model.specs.Moments.{is_over, patience}
 use Rattle.end_model.specs.Reasons.{Reason}
@@ -173,6 +176,27 @@ module _ (g : List ℕ) where
   first_still role c (Ok (Fsq sessions)) t h = dropped why.Tunnel t h
   first_still role c (Ok (Fsr sessions)) t h = dropped why.Tunnel t h
   first_still role c (Err w) t h = dropped why.Tunnel t h
+
+  -- ---- sessions that are asked for
+
+  by_still : (o : Option (List Pair)) (t : Turn) → Still t → Still (queries_by o t)
+  unfolding queries_by queries gives with_move
+  by_still None t h = h
+  by_still (Some pairs) t h =
+      branch Still (has_room t.control) _ _ (λ may. record { gone = h.gone; killed = h.killed }) (λ full. dropped why.Queue t h)
+
+  pub asks_still : (t : Turn) → Still t → Still (asks_more t)
+  unfolding asks_more
+  asks_still t h = by_still (next_batch t.query) t h
+
+  pub next_still : (letters : List Letter) (t : Turn) → Still t → Still (asks_next letters t)
+  unfolding asks_next
+  next_still letters t h = settled false letters (asks_more t) (asks_still t h)
+
+  pub query_still : (calls : List (ℕ × Call)) (pairs : List Pair) (t : Turn) → Still t → Still (answers_query calls pairs t)
+  unfolding answers_query answered_query gives with_move takes_one
+  query_still calls pairs t h =
+      branch Still (has_room t.control) _ _ (λ may. record { gone = h.gone; killed = h.killed }) (λ full. dropped why.Queue t h)
 
   -- ---- calls that are asked for
 

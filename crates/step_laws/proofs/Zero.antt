@@ -15,10 +15,10 @@ use Rattle.control_message.specs.declared.message.Opening.{Opening}
 use Rattle.control_message.specs.declared.message.Read.{Read}
 use Rattle.control_message.specs.declared.message.Read.TheVariants.{Known, Ignored}
 use Rattle.control_message.specs.declared.message.MessageError.{MessageError}
-use Rattle.control_message.specs.Reading.{message_of, kind_of_pairs, plain_short}
+use Rattle.control_message.specs.Reading.{plain_short}
 use Rattle.end_model.specs.declared.event.Addressee.{Addressee}
 use Rattle.end_model.specs.declared.event.Addressee.TheVariants.{Opens, Recovers, Recovery, Stops, Answers, Main, Nobody}
-use Rattle.end_model.specs.Reading.{message_read, pairs_read, message_in, TunnelFault, tunnel_fault_read, tunnel_fault_of_pairs, tunnel_fault_in, stopped, told_or_none, zero_faulty, zero_read, zero_pairs, at_zero}
+use Rattle.end_model.specs.Reading.{message_read, pairs_read, message_in, TunnelFault, tunnel_fault_read, tunnel_fault_of_pairs, tunnel_fault_in, stopped, told_or_none, zero_faulty, zero_read, zero_pairs, at_zero, kind_said, message_said}
 use Rattle.step_laws.proofs.Lists.{branch}
 use Rattle.step_laws.proofs.Assigned.{message_assigns, inner_fault}
 use Rattle.step_laws.proofs.Faults.{IsOfOpening, of_opening}
@@ -64,15 +64,15 @@ module _ (body : List ℕ) where
 
   -- what the pairs of the body make
   module _ (avps : List Avp) (pairs : avps_of body ≡ Ok avps) where
-    made : message_in body ≡ message_read (message_of avps)
+    made : message_in body ≡ message_read (message_said avps)
     unfolding message_in pairs_read
     made = rw pairs refl
 
-    fault_made : tunnel_fault_in body ≡ tunnel_fault_read avps (message_of avps)
+    fault_made : tunnel_fault_in body ≡ tunnel_fault_read avps (message_said avps)
     unfolding tunnel_fault_in tunnel_fault_of_pairs
     fault_made = rw pairs refl
 
-    module _ (x : MessageError) (is : message_of avps ≡ Err x) where
+    module _ (x : MessageError) (is : message_said avps ≡ Err x) where
       unread : message_in body ≡ Err why.Avp
       unfolding message_read
       unread = made ∙ (rw is refl)
@@ -80,14 +80,14 @@ module _ (body : List ℕ) where
       no_opening : NoOpening
       no_opening o said = let both : Err why.Avp ≡ Ok (Sccrq o) = sym unread ∙ said in absurd cc
 
-      faulty_opening : kind_of_pairs avps ≡ Some kind.Sccrq → IsFaultyOpening body
+      faulty_opening : kind_said avps ≡ Some kind.Sccrq → IsFaultyOpening body
       faulty_opening named = record {
         why = why.Avp;
         unread = unread;
         fault = λ g has. of_opening body avps pairs x is g named (inner_fault avps x named is) (rw (fault_made, is) at has);
       }
 
-      says_faulty : (o : Option Kind) → kind_of_pairs avps ≡ o → ZeroSays body (zero_faulty o avps)
+      says_faulty : (o : Option Kind) → kind_said avps ≡ o → ZeroSays body (zero_faulty o avps)
       says_faulty (Some kind.Sccrq) named = says_told (λ i. Opens i) (λ i some. (some, inr (faulty_opening named))) (plain_short 9 avps)
       says_faulty (Some kind.Sccrp) named = says_told (λ i. Answers i) (λ i some. some) (plain_short 9 avps)
       says_faulty (Some kind.StopCcn) named = says_stopped no_opening (plain_short 9 avps)
@@ -106,16 +106,16 @@ module _ (body : List ℕ) where
       says_faulty (Some kind.Wen) named = for_none
       says_faulty (Some kind.Sli) named = for_none
 
-    said : (m : Message) → message_of avps ≡ Ok (Known m) → message_in body ≡ Ok m
+    said : (m : Message) → message_said avps ≡ Ok (Known m) → message_in body ≡ Ok m
     unfolding message_read
     said m is = made ∙ (rw is refl)
 
-    says_sccrq : (o : Opening) → message_of avps ≡ Ok (Known (Sccrq o)) → (b : Bool) → is_some o.recovery ≡ b
+    says_sccrq : (o : Opening) → message_said avps ≡ Ok (Known (Sccrq o)) → (b : Bool) → is_some o.recovery ≡ b
         → ZeroSays body (cond b (Recovers o.tunnel) (Opens o.tunnel))
     says_sccrq o is true asks = (message_assigns avps (Sccrq o) is, (o, said (Sccrq o) is, refl, asks))
     says_sccrq o is false none = (message_assigns avps (Sccrq o) is, inl (o, said (Sccrq o) is, refl, none))
 
-    says_read : (r : Result Read MessageError) → message_of avps ≡ r → ZeroSays body (zero_read avps r)
+    says_read : (r : Result Read MessageError) → message_said avps ≡ r → ZeroSays body (zero_read avps r)
     unfolding zero_read
     says_read (Ok (Known (Sccrq o))) is = says_sccrq o is (is_some o.recovery) refl
     says_read (Ok (Known (Sccrp o))) is = message_assigns avps (Sccrp o) is
@@ -135,11 +135,11 @@ module _ (body : List ℕ) where
     says_read (Ok (Known (Fsq sessions))) is = for_none
     says_read (Ok (Known (Fsr sessions))) is = for_none
     says_read (Ok (Ignored n)) is = for_none
-    says_read (Err x) is = says_faulty x is (kind_of_pairs avps) refl
+    says_read (Err x) is = says_faulty x is (kind_said avps) refl
 
   says_pairs : (r : Result (List Avp) AvpError) → avps_of body ≡ r → ZeroSays body (zero_pairs r)
   unfolding zero_pairs
-  says_pairs (Ok avps) is = says_read avps is (message_of avps) refl
+  says_pairs (Ok avps) is = says_read avps is (message_said avps) refl
   says_pairs (Err x) is = λ q. absurd cc
 
   pub zero_says : ZeroSays body (at_zero body)

@@ -11,7 +11,7 @@ use Rattle.avp_codec.specs.Reading.{avps_of}
 use Rattle.control_message.specs.declared.message.Message.TheVariants.{Icrq, Ocrq}
 use Rattle.control_message.specs.declared.kind.Kind.{Kind}
 use Rattle.control_message.specs.declared.kind.Kind.TheVariants as kind
-use Rattle.control_message.specs.Reading.{kind_of_pairs}
+use Rattle.end_model.specs.Reading.{kind_said}
 use Rattle.tunnel_fsm.specs.declared.table.TunnelState.TheVariants.{WaitCtlReply, Established}
 use Rattle.tunnel_fsm.specs.Rows.{state_number}
 use Rattle.end_model.specs.declared.tunnel.Call.{Call}
@@ -51,7 +51,7 @@ pub data IsRequest (body : List ℕ) : Type 0 where
   Outgoing : (remote : ℕ) → message_in body ≡ Ok (Ocrq remote) → IsRequest body
   FaultyIncoming : (f : CallFault) → call_fault_in body ≡ Some f → f.kind ≡ kind.Icrq → IsRequest body
   FaultyOutgoing : (f : CallFault) → call_fault_in body ≡ Some f → f.kind ≡ kind.Ocrq → IsRequest body
-  TooFaulty : (avps : List Avp) (g : TunnelFault) → avps_of body ≡ Ok avps → AsksForCall (kind_of_pairs avps) → tunnel_fault_in body ≡ Some g
+  TooFaulty : (avps : List Avp) (g : TunnelFault) → avps_of body ≡ Ok avps → AsksForCall (kind_said avps) → tunnel_fault_in body ≡ Some g
       → IsRequest body
 
 -- the next message of the peer of an open tunnel, in the tunnel that its header names; once Nr is read the tunnel has room for what it

@@ -5,10 +5,12 @@ use Rattle.id_source.specs.declared.IdError.{IdError}
 use Rattle.id_source.specs.Spaces.{takes_id}
 use Rattle.wire_base.specs.declared.cause.Cause.{Cause as CauseOf}
 use Rattle.wire_base.specs.declared.cause.Cause.TheVariants as cause
+use Rattle.wire_base.specs.declared.pair.Pair.{Pair}
+use Rattle.end_model.specs.Querying.{told_at}
 use Rattle.control_message.specs.declared.kind.Kind.{Kind}
 use Rattle.control_message.specs.declared.kind.Kind.TheVariants as kind
 use Rattle.control_message.specs.declared.message.Message.{Message}
-use Rattle.control_message.specs.declared.message.Message.TheVariants.{Sccrq, Sccrp, Scccn, Ocrq, Icrq, Icrp, Iccn}
+use Rattle.control_message.specs.declared.message.Message.TheVariants.{Sccrq, Sccrp, Scccn, Ocrq, Icrq, Icrp, Iccn, Fsr}
 use Rattle.control_message.specs.declared.message.Opening.{Opening}
 use Rattle.call_fsm.specs.declared.table.CallEvent.{CallEvent}
 use Rattle.call_fsm.specs.declared.table.CallEvent.TheVariants as call_event
@@ -245,6 +247,16 @@ pub record CameFaultyOpening (e : End) (ev : Event) (c : CauseOf) : Type 0 where
   pub is_of : IsOf body kind.Sccrq
   pub fault : TellsFault body c
 
+-- an FSR came that isn't the answer to what the tunnel asks for, and closes it
+pub record CameUnasked (e : End) (ev : Event) : Type 0 where
+  pub tunnel : Tunnel
+  pub session : ℕ
+  pub answers : List Pair
+  pub came : HearsNext ev tunnel session (Fsr answers)
+  pub place : ℕ
+  pub differs : told_at tunnel.control.state tunnel.query answers ≡ Err place
+  pub closed : IsClosedOn e tunnel event.AdminClose
+
 -- an SCCRP that names none
 pub record CameAnswer (ev : Event) : Type 0 where
   pub peer : ℕ
@@ -312,6 +324,7 @@ Stands e moment ev cause.Recovering = RingsInRecovery e ev
 Stands e moment ev cause.Tunnels =
     (RingsNew e ev ⊎ ((ev ≡ OpenTunnel) ⊎ ((o : Opening) × WouldOpen e ev o × IsOrdinary o))) × (has_all_tunnels e ≡ true)
 Stands e moment ev cause.Outgoing = (t : Tunnel) × (header : ℕ) × (remote : ℕ) × CameAbout e ev t header (Ocrq remote)
+Stands e moment ev cause.Query = CameUnasked e ev
 Stands e moment ev c = ⊥
 
 -- in each step of an end whose tunnels are kept, each cause that is told stands

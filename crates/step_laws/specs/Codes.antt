@@ -11,7 +11,7 @@ use Rattle.end_model.specs.declared.moves.Refused.{Refused}
 use Rattle.end_model.specs.declared.tunnel.Call.{Call}
 use Rattle.end_model.specs.Reading.{CallFault}
 use Rattle.end_model.specs.declared.tunnel.Control.{Control}
-use Rattle.end_model.specs.Tunnels.{Tunnel}
+use Rattle.end_model.specs.Tunnels.{Tunnel, Asking}
 use Rattle.end_model.specs.Reasons.{fault_error}
 use Rattle.end_model.specs.End.{End}
 use Rattle.control_message.specs.declared.message.Opening.{Opening}
@@ -19,7 +19,7 @@ use Rattle.control_message.specs.declared.message.Recovery.{Recovery}
 use Rattle.tunnel_fsm.specs.declared.table.TunnelEvent.{TunnelEvent}
 use Rattle.end_model.specs.declared.moves.Closed.{Closed}
 use Rattle.end_model.specs.declared.moves.Declined.{Declined}
-use Rattle.step_laws.specs.Moves.{Came, DeniesCall, AsksItself, HasUsedId, HasAllCalls, HasNoSession, StandsAgainst, OtherVersion, NoTunnel, Challenges, NoId, StandsAgainstRecovery, OfOtherVersion, OfNoTunnel, OfNoSecret, OfNoId, ClosesIn, HasOtherVersion, HasRecovery, HasOtherSecret, ClosesConnected, WronglyConnected, ComesUnawaited, IsUnawaited, WhyDeclined, AnOpening, ARecovery, AFaultyOpening, AnAnswer, LetterCloses, WhyCloses, ByOperator, ByLetter, BySccrq, BySccrp, ByScccn, ByFault, WhyEnds, IsLate, IsDropped, IsHungUp, IsEnded, IsAsked, IsReplied, IsConnected, HasFault, WhyRefused, IsNotGranted, IsOutgoing, IsReplyToNone, IsWrong}
+use Rattle.step_laws.specs.Moves.{Came, DeniesCall, AsksItself, HasUsedId, HasAllCalls, HasNoSession, StandsAgainst, OtherVersion, NoTunnel, Challenges, NoId, StandsAgainstRecovery, OfOtherVersion, OfNoTunnel, OfNoSecret, OfNoId, ClosesIn, HasOtherVersion, HasRecovery, HasOtherSecret, ClosesConnected, WronglyConnected, ComesUnawaited, IsUnawaited, WhyDeclined, AnOpening, ARecovery, AFaultyOpening, AnAnswer, LetterCloses, WhyCloses, ByOperator, ByLetter, BySccrq, BySccrp, ByScccn, ByUnasked, ByFault, WhyEnds, IsLate, IsDropped, IsHungUp, IsEnded, IsAsked, IsReplied, IsConnected, HasFault, WhyRefused, IsNotGranted, IsOutgoing, IsReplyToNone, IsWrong}
 
 -- 16 bits each
 abbrev pub CodesFit : ℕ → Option ℕ → Type 0
@@ -120,17 +120,22 @@ connected_fits secret asked response on result error (WronglyConnected wrong at_
 connected_fits secret asked response on result error (ComesUnawaited right at_ r x) = fits result error 7 None (omega arith, tt) r x
 
 -- and those of a StopCCN
-pub letter_codes_fit : (secret : Option (List ℕ)) (c : Control) (k : Came) (on : TunnelEvent) (told result : ℕ) (error : Option ℕ)
-    → LetterCloses secret c k on told result error → CodesFit result error
-letter_codes_fit secret c k on told result error (BySccrq o said at_ known why) = closing_fits secret None o result error why
-letter_codes_fit secret c k on told result error (BySccrp o said at_ known why) = closing_fits secret c.challenge o result error why
-letter_codes_fit secret c k on told result error (ByScccn response said known why) = connected_fits secret c.challenge response on result error why
-letter_codes_fit secret c k on told result error (ByFault g has at_ known r x) =
+pub letter_codes_fit : (secret : Option (List ℕ)) (c : Control) (q : Asking) (k : Came) (on : TunnelEvent)
+    (told result : ℕ) (error : Option ℕ)
+    → LetterCloses secret c q k on told result error → CodesFit result error
+letter_codes_fit secret c q k on told result error (BySccrq o said at_ known why) = closing_fits secret None o result error why
+letter_codes_fit secret c q k on told result error (BySccrp o said at_ known why) = closing_fits secret c.challenge o result error why
+letter_codes_fit secret c q k on told result error (ByScccn response said known why) =
+    connected_fits secret c.challenge response on result error why
+letter_codes_fit secret c q k on told result error (ByFault g has at_ known r x) =
     fits result error 2 (Some (fault_error g.cause)) (omega arith, fault_fits g.cause) r x
+letter_codes_fit secret c q k on told result error (ByUnasked answers place said differs at_ known r x) = fits result error 7 None
+    (omega arith, tt) r x
 
 pub stop_codes_fit : (secret : Option (List ℕ)) (t : Tunnel) (ev : Event) (on : TunnelEvent) (m : Closed) → WhyCloses secret t ev on m → CodesFit m.result m.error
 stop_codes_fit secret t ev on m (ByOperator is at_ known r x) = fits m.result m.error 1 None (omega arith, tt) r x
-stop_codes_fit secret t ev on m (ByLetter told k next spare why other known) = letter_codes_fit secret t.control k on told m.result m.error why
+stop_codes_fit secret t ev on m (ByLetter told k next spare why other known) =
+    letter_codes_fit secret t.control t.query k on told m.result m.error why
 
 -- and those of one that declines an opening
 pub decline_codes_fit : (e : End) (body : List ℕ) (m : Declined) → WhyDeclined e body m → CodesFit m.result m.error

@@ -6,7 +6,7 @@ use Rattle.wire_base.specs.declared.cause.Cause.TheVariants as cause
 use Rattle.avp_codec.specs.declared.avp.Avp.{Avp}
 use Rattle.avp_codec.specs.Reading.{avps_of}
 use Rattle.avp_codec.specs.Spelling.{spelling, AreAvps}
-use Rattle.control_message.specs.declared.kind.Kinds.TheVariants.{Base}
+use Rattle.control_message.specs.declared.kind.Kinds.TheVariants.{Queries}
 use Rattle.control_message.specs.declared.kind.Kind.{Kind}
 use Rattle.control_message.specs.declared.kind.Kind.TheVariants as kind
 use Rattle.control_message.specs.declared.message.MessageError.{MessageError}
@@ -26,7 +26,7 @@ IsUnreadable body = (avps : List Avp) → AreAvps avps → body ≡ spelling avp
 pub record HasFirst (body : List ℕ) (x : MessageError) : Type 0 where
   pub pairs : List Avp
   pub read : avps_of body ≡ Ok pairs
-  pub fault : IsFault Base pairs x
+  pub fault : IsFault Queries pairs x
 
 -- the fault of a message that a cause tells: a value that it needs isn't there, has another form or can't be uncovered, or is hidden with no
 -- Random Vector before it; a pair, or the type, has to be understood and isn't known; the type is wanting; or the bytes are no list of pairs
@@ -45,7 +45,7 @@ pub data TellsFault (body : List ℕ) : CauseOf → Type 0 where
 pub record IsOf (body : List ℕ) (k : Kind) : Type 0 where
   pub pairs : List Avp
   pub read : avps_of body ≡ Ok pairs
-  pub names : IsOfKind Base pairs k
+  pub names : IsOfKind Queries pairs k
 
 -- about a call
 abbrev pub IsAboutCall : Kind → Type 0

@@ -4,7 +4,7 @@ use Rattle.l2tp_header.specs.Spelling.{control_bytes, data_bytes}
 use Rattle.l2tp_header.specs.Grammar.{FitsWord}
 use Rattle.wire_base.specs.declared.letter.Letter as wire
 use Rattle.control_message.specs.declared.message.Message.{Message}
-use Rattle.control_message.specs.declared.message.Message.TheVariants.{Sccrq, Sccrp, Scccn, StopCcn, Hello, Icrp, Cdn}
+use Rattle.control_message.specs.declared.message.Message.TheVariants.{Sccrq, Sccrp, Scccn, StopCcn, Hello, Icrp, Cdn, Fsq, Fsr}
 use Rattle.recv_window.specs.Window.{on_wire}
 use Rattle.control_channel.specs.Numbers.{place_of}
 use Rattle.end_model.specs.declared.tunnel.Config.{Config}
@@ -61,6 +61,8 @@ letters_of role c (move.EndTold m) = letter m.tunnel m.given m.remote (Cdn m.ses
 letters_of role c (move.Closed m) = letter m.tunnel m.given 0 (StopCcn m.tunnel m.result m.error)
 letters_of role c (move.Rejected m) = letter m.tunnel m.given 0 (StopCcn m.tunnel m.result m.error)
 letters_of role c (move.Greeted m) = letter m.tunnel m.given 0 Hello
+letters_of role c (move.Queried m) = letter m.tunnel m.given 0 (Fsq m.pairs)
+letters_of role c (move.AnsweredQuery m) = letter m.tunnel m.given 0 (Fsr m.answers)
 letters_of role c m = []
 
 -- the letter with a number, among those that a tunnel keeps

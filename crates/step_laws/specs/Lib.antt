@@ -5,6 +5,7 @@ pub mod Failing
 pub mod Hides
 pub mod Arrivals
 pub mod Openings
+pub mod Queries
 pub mod Setups
 pub mod Moves
 pub mod Steps

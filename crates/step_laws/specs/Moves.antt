@@ -15,7 +15,6 @@ use Rattle.tunnel_fsm.specs.declared.table.TunnelEvent.{TunnelEvent}
 use Rattle.tunnel_fsm.specs.declared.table.TunnelEvent.TheVariants as event
 use Rattle.tunnel_fsm.specs.declared.table.TunnelAction.TheVariants as action
 use Rattle.tunnel_fsm.specs.Rows.{rows, row_of, state_number}
-use Rattle.call_fsm.specs.declared.table.CallState.TheVariants as call
 use Rattle.call_fsm.specs.declared.table.CallEvent.TheVariants as call_event
 use Rattle.end_model.specs.declared.tunnel.Call.{Call}
 use Rattle.end_model.specs.declared.tunnel.CallPlace.{CallPlace}
@@ -23,22 +22,9 @@ use Rattle.session_looks.specs.declared.look.CellChange.TheVariants as cell
 use Rattle.end_model.specs.declared.tunnel.Control.{Control}
 use Rattle.end_model.specs.declared.event.Event.{Event}
 use Rattle.end_model.specs.declared.event.Event.TheVariants.{Datagram, CloseTunnel, Tick}
-use Rattle.end_model.specs.declared.moves.Opened.{Opened}
-use Rattle.end_model.specs.declared.moves.Accepted.{Accepted}
-use Rattle.end_model.specs.declared.moves.Connected.{Connected}
-use Rattle.end_model.specs.declared.moves.Confirmed.{Confirmed}
-use Rattle.end_model.specs.declared.moves.Added.{Added}
-use Rattle.end_model.specs.declared.moves.Requested.{Requested}
-use Rattle.end_model.specs.declared.moves.Replied.{Replied}
-use Rattle.end_model.specs.declared.moves.Refused.{Refused}
-use Rattle.end_model.specs.declared.moves.FirstUp.{FirstUp}
-use Rattle.end_model.specs.declared.moves.SecondUp.{SecondUp}
 use Rattle.end_model.specs.declared.moves.TookPlain.{TookPlain}
 use Rattle.end_model.specs.declared.moves.NrRead.{NrRead}
 use Rattle.end_model.specs.declared.moves.LetGo.{LetGo}
-use Rattle.end_model.specs.declared.moves.EndTold.{EndTold}
-use Rattle.end_model.specs.declared.moves.EndHeard.{EndHeard}
-use Rattle.end_model.specs.declared.moves.EndSilent.{EndSilent}
 use Rattle.end_model.specs.declared.moves.Greeted.{Greeted}
 use Rattle.end_model.specs.declared.moves.Closed.{Closed}
 use Rattle.end_model.specs.declared.moves.ClosedBy.{ClosedBy}
@@ -58,6 +44,9 @@ use Rattle.recv_window.specs.Window.{class_of, on_wire}
 use Rattle.recv_window.specs.declared.Class.TheVariants.{Next}
 use Rattle.std.specs.List.{flat_map}
 use Rattle.wire_base.specs.declared.cause.Cause.{Cause}
+use Rattle.wire_base.specs.declared.pair.Pair.{Pair}
+use Rattle.session_query.specs.Queries.{Asking, new_query}
+use Rattle.end_model.specs.Querying.{told_at}
 use Rattle.control_message.specs.declared.message.Recovery.{Recovery}
 use Rattle.control_message.specs.declared.message.Suggested.{Suggested}
 use Rattle.control_channel.specs.Channel.{Channel}
@@ -82,10 +71,10 @@ use Rattle.end_model.specs.declared.event.Addressee.TheVariants as addressee
 use Rattle.l2tp_header.specs.Reading.{body_of}
 use Rattle.end_model.specs.Reading.{message_in, TunnelFault, tunnel_fault_in, at_zero}
 use Rattle.session_looks.specs.Frames.{side_of}
-use Rattle.end_model.specs.Calls.{row_for, number_of, counted, is_connection, is_up, is_clean_up}
+use Rattle.end_model.specs.Calls.{sessions_of, row_for, number_of, counted, is_connection, is_up, is_clean_up}
 use Rattle.end_model.specs.Tunnels.{Tunnel, new_tunnel}
 use Rattle.end_model.specs.Channels.{place, next_place, taken_place, counts_taken, counts_acked, counts_sent, counts_repeated}
-use Rattle.end_model.specs.Messages.{connection, event_by}
+use Rattle.end_model.specs.Messages.{event_by}
 use Rattle.end_model.specs.Asking.{session_named}
 use Rattle.end_model.specs.Reasons.{fault_error}
 use Rattle.end_model.specs.Moments.{is_closed, is_open}
@@ -98,6 +87,7 @@ use Rattle.end_model.specs.End.{End, with_looks}
 pub use Rattle.step_laws.specs.Arrivals.{Came, CameIn, Says, SaysFaulty, IsAgain, IsStop, IsFor, ComesTo, IsNext, HearsNext, heard_so, InTunnel, IsFaulty, Hears, heard_from, TellsNr}
 pub use Rattle.step_laws.specs.Hides.{Asks, right_answer, Responds, IsRight, LacksSecret}
 pub use Rattle.step_laws.specs.Links.{HearsFrame}
+pub use Rattle.step_laws.specs.Queries.{Questions, AnswersQuestion, without_each, HearsAnswer}
 pub use Rattle.step_laws.specs.Openings.{has_all_tunnels, has_all_calls, has_room, may_take, Taking, with_tunnel, with_letter, with_letter_as, begun, learns_window, Opens, IsUnknown, Accepts, Connects, Confirms}
 pub use Rattle.step_laws.specs.Setups.{Adds, Requests, IsIdInUse, GrantsCall, DeniesCall, AsksItself, HasUsedId, HasAllCalls, HasNoSession, Replies, ComesUpFirst, ComesUpSecond, without_call, TookTooLong, fault_event, WhyEnds, IsLate, IsDropped, IsHungUp, IsAsked, IsReplied, IsConnected, IsEnded, HasFault, TellsEnd, WhyRefused, IsNotGranted, IsOutgoing, IsReplyToNone, IsWrong, Refuses, HearsEnd, EndsSilently}
 
@@ -181,24 +171,30 @@ pub data ClosesConnected (secret asked response : Option (List ℕ)) (on : Tunne
 
 -- why a letter closes the tunnel in which it comes: the event of the tunnel's table, the id of the peer's tunnel that it tells, where it is
 -- an SCCRP, and the codes of the StopCCN that says so (RFC 2661 section 4.4.2); of an end with this secret
-pub data LetterCloses (secret : Option (List ℕ)) (c : Control) (k : Came) (on : TunnelEvent) (told result : ℕ) (error : Option ℕ) : Type 0 where
+pub data LetterCloses (secret : Option (List ℕ)) (c : Control) (q : Asking) (k : Came) (on : TunnelEvent) (told result : ℕ)
+    (error : Option ℕ) : Type 0 where
   -- an opening came again, or isn't acceptable
   BySccrq : (o : Opening) → message_in k.body ≡ Ok (Sccrq o) → on ≡ event_by event.SccrqAcc event.SccrqNotAcc secret None o
-      → told ≡ 0 → ClosesIn secret None o result error → LetterCloses secret c k on told result error
+      → told ≡ 0 → ClosesIn secret None o result error → LetterCloses secret c q k on told result error
   BySccrp : (o : Opening) → message_in k.body ≡ Ok (Sccrp o) → on ≡ event_by event.SccrpAcc event.SccrpNotAcc secret c.challenge o
-      → told ≡ o.tunnel → ClosesIn secret c.challenge o result error → LetterCloses secret c k on told result error
+      → told ≡ o.tunnel → ClosesIn secret c.challenge o result error → LetterCloses secret c q k on told result error
   ByScccn : (response : Option (List ℕ)) → message_in k.body ≡ Ok (Scccn response) → told ≡ 0
-      → ClosesConnected secret c.challenge response on result error → LetterCloses secret c k on told result error
+      → ClosesConnected secret c.challenge response on result error → LetterCloses secret c q k on told result error
   -- it has a fault
   ByFault : (g : TunnelFault) → tunnel_fault_in k.body ≡ Some g → on ≡ g.event → told ≡ g.remote → result ≡ 2 → error ≡ Some (fault_error g.cause)
-      → LetterCloses secret c k on told result error
+      → LetterCloses secret c q k on told result error
+  -- it answers what wasn't asked for
+  ByUnasked : (answers : List Pair) (place : ℕ) → message_in k.body ≡ Ok (Fsr answers) → told_at c.state q answers ≡ Err place
+      → on ≡ event.AdminClose
+      → told ≡ 0 → result ≡ 7 → error ≡ None → LetterCloses secret c q k on told result error
 
 -- why a tunnel is closed with a StopCCN to the peer's tunnel that it knows: by an administrator, or by the next letter, which the closed
 -- tunnel then takes
 pub data WhyCloses (secret : Option (List ℕ)) (t : Tunnel) (ev : Event) (on : TunnelEvent) (m : Closed) : Type 0 where
   ByOperator : ev ≡ CloseTunnel m.tunnel → on ≡ event.AdminClose → m.remote ≡ t.control.remote → m.result ≡ 1 → m.error ≡ None
       → WhyCloses secret t ev on m
-  ByLetter : (told : ℕ) (k : Came) → IsNext ev t k → may_take t.control t.calls ≡ true → LetterCloses secret t.control k on told m.result m.error
+  ByLetter : (told : ℕ) (k : Came) → IsNext ev t k → may_take t.control t.calls ≡ true
+      → LetterCloses secret t.control t.query k on told m.result m.error
       → (state_number t.control.state ≡ 1 → ⊥) → m.remote ≡ t.control.remote → WhyCloses secret t ev on m
 
 -- its calls aren't there any more
@@ -229,7 +225,7 @@ pub record Rejects (e : End) (moment : ℕ) (ev : Event) (m : Rejected) (x : End
   pub on : TunnelEvent
   pub letter : Came
   pub takes : Taking ev tunnel letter m.taken
-  pub why : LetterCloses e.config.secret tunnel.control letter on m.remote m.result m.error
+  pub why : LetterCloses e.config.secret tunnel.control tunnel.query letter on m.remote m.result m.error
   pub row : row_of rows tunnel.control.state on ≡ (state.Closed, action.SendStopCcn)
   pub room : has_room tunnel.control ≡ true
   pub given : m.given ≡ next_place tunnel.control
@@ -323,8 +319,9 @@ IsPlain e t session Ocrp = Unit {0}
 IsPlain e t session Occn = Unit {0}
 IsPlain e t session Wen = Unit {0}
 IsPlain e t session Sli = Unit {0}
-IsPlain e t session (Fsq sessions) = Unit {0}
-IsPlain e t session (Fsr sessions) = Unit {0}
+-- a question is answered in an open tunnel, and an answer is taken, or closes the tunnel
+IsPlain e t session (Fsq sessions) = state_number t.control.state ≡ 3 → ⊥
+IsPlain e t session (Fsr sessions) = is_closed t.control.state ≡ true
 -- a request that names a call makes none
 IsPlain e t session (Icrq remote serial calling) = state_number t.control.state ≡ 3 → (c : Call) × (at t.calls session ≡ Some c)
 IsPlain e t session (Icrp remote) = state_number t.control.state ≡ 3
@@ -525,12 +522,13 @@ pub record Freezes (e : End) (ev : Event) (m : Froze) (x : End) : Type 0 where
     calls = with_looks (map cell.Kill (unfinished_of tunnel.calls)) e.calls;
   }
 
--- the channel begins anew, without a letter
+-- the channel begins anew, without a letter, and the sessions that are established are to be asked for
 abbrev pub begun_anew : ℕ → ℕ → ℕ → Recovering → Tunnel → Tunnel
 begun_anew send_from expect mark r t = record t {
   control = record t.control { channel = reset_at t.control.channel (on_wire send_from) (on_wire expect); mark = mark };
   letters = [];
   recovery = Some r;
+  query = new_query (sessions_of t.calls);
 }
 
 pub record ResetsAttempting (e : End) (moment : ℕ) (ev : Event) (m : ResetAttempting) (x : End) : Type 0 where
@@ -655,6 +653,9 @@ Does e moment ev (move.Forgot m) x = Forgets e m x
 Does e moment ev (move.Froze m) x = Freezes e ev m x
 Does e moment ev (move.ResetAttempting m) x = ResetsAttempting e moment ev m x
 Does e moment ev (move.ResetAnswering m) x = ResetsAnswering e moment ev m x
+Does e moment ev (move.Queried m) x = Questions e m x
+Does e moment ev (move.AnsweredQuery m) x = AnswersQuestion e ev m x
+Does e moment ev (move.TookAnswer m) x = HearsAnswer e ev m x
 Does e moment ev (move.RecoveryWentOn i) x = GoesOn e ev i x
 Does e moment ev (move.RecoveryEnded i) x = EndsRecovery e i x
 Does e moment ev (move.Ignored i) x = IgnoresIt e moment ev i x

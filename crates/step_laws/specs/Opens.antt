@@ -11,7 +11,8 @@ use Rattle.control_message.specs.declared.message.Opening.{Opening}
 use Rattle.control_message.specs.declared.message.Read.{Read}
 use Rattle.control_message.specs.declared.message.Read.TheVariants.{Known, Ignored}
 use Rattle.control_message.specs.declared.message.MessageError.{MessageError}
-use Rattle.control_message.specs.Reading.{message_of, message_by, kind_by}
+use Rattle.control_message.specs.Reading.{message_by, kind_by}
+use Rattle.end_model.specs.Reading.{message_said}
 use Rattle.end_model.specs.declared.event.Addressee.TheVariants.{Opens, Recovers, Stops, Nobody}
 use Rattle.end_model.specs.Reading.{message_read, pairs_read, message_in, zero_read, zero_pairs, at_zero}
 
@@ -57,7 +58,7 @@ read_opens avps (Err x) m remote h said = absurd cc
 
 pairs_open : (r : Result (List Avp) AvpError) (m : Message) (remote : ℕ) → zero_pairs r ≡ Opens remote → pairs_read r ≡ Ok m → Assigns m remote
 unfolding zero_pairs pairs_read
-pairs_open (Ok avps) m remote h said = read_opens avps (message_of avps) m remote h said
+pairs_open (Ok avps) m remote h said = read_opens avps (message_said avps) m remote h said
 pairs_open (Err x) m remote h said = absurd cc
 
 pub opens_said : (body : List ℕ) (m : Message) (remote : ℕ) → at_zero body ≡ Opens remote → message_in body ≡ Ok m → Assigns m remote

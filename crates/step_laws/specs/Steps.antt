@@ -24,6 +24,7 @@ use Rattle.control_message.specs.declared.message.Message.TheVariants.{StopCcn}
 use Rattle.control_message.specs.Pairs.{pairs_of}
 use Rattle.step_laws.specs.Letters.{Among, IsRecoveryLetter, Carries, HasOutput}
 use Rattle.step_laws.specs.Moves.{Chain}
+use Rattle.step_laws.specs.Queries.{IsQuery}
 
 -- a tunnel of an end stands under its own id, isn't idle, its calls ascend, at most 4,096 of them, and it keeps as many letters
 -- as its window counts. These and the letters that its calls owe are fewer than 8,192, the most that a channel holds, as long as it
@@ -44,6 +45,10 @@ pub record IsKept (role : Role) (config : Config) (i : ℕ) (t : Tunnel) : Type 
   pub acked : t.control.channel.window.acked < 2 ^ 64
   -- the channel of one that is frozen or restored gives nothing
   pub frozen : is_current (mode_of t.recovery) ≡ false → t.control.channel.frozen ≡ true
+  -- and it is open
+  pub open_is : is_current (mode_of t.recovery) ≡ false → state_number t.control.state ≡ 3
+  -- what it asks for
+  pub asks : IsQuery t.query
   -- what its recovery tunnel holds is of a recovery
   pub recovering : (r : Recovering) → t.recovery ≡ Some r → AllByRecursion (IsRecoveryLetter role config i r) (connection_of r).channel.outbox.letters
 

@@ -3,7 +3,7 @@ use Rattle.std.proofs.Common.{ℕ, List, [], ◌∷◌, ◌++◌, map, true, fal
 use Rattle.std.specs.List.{AllByRecursion, flat_map}
 use Rattle.id_source.specs.Spaces.{Space}
 use Rattle.session_book.specs.declared.record.Record.{Record}
-use Rattle.session_book.specs.declared.record.Record.TheVariants.{Ceiling}
+use Rattle.session_book.specs.declared.record.Record.TheVariants.{Ceiling, CallDown}
 use Rattle.step_ledger.specs.Committing.{IsUnmarked}
 use Rattle.end_model.specs.declared.moves.Move.{Move}
 use Rattle.end_model.specs.declared.moves.Move.TheVariants as move
@@ -34,6 +34,10 @@ of_mark : (marked : Bool) (i mark : ℕ) → AreUnmarked (mark_by marked i mark)
 of_mark true i mark = (tt, tt)
 of_mark false i mark = tt
 
+of_ends : (ids : List ℕ) → AreUnmarked (map (λ s. CallDown s) ids)
+of_ends [] = tt
+of_ends (s ∷ ss) = (tt, of_ends ss)
+
 of_move : (m : Move) → AreUnmarked (records_of m)
 unfolding records_of
 of_move (move.Connected m) = (refl, tt)
@@ -49,6 +53,7 @@ of_move (move.Cleared i booked) = of_tunnel booked i
 of_move (move.Forgot m) = of_tunnel true m.tunnel
 of_move (move.Froze m) = of_mark m.marked m.tunnel m.asked
 of_move (move.ResetAttempting m) = of_mark m.marked m.tunnel m.draw
+of_move (move.TookAnswer m) = of_ends m.ended
 of_move m = tt
 
 of_moves : (ms : List Move) → AreUnmarked (flat_map (λ m. records_of m) ms)

@@ -1,6 +1,6 @@
 //! The records that a step leaves.
 
-ghost use Rattle.std.specs.Prelude.{◌≡◌, ◌+◌, ◌*◌, ◌-◌, ◌/◌, ◌++◌, false, min, replicate, OnOk, IfOk, option_to_list};
+ghost use Rattle.std.specs.Prelude.{◌≡◌, ◌+◌, ◌*◌, ◌-◌, ◌/◌, ◌++◌, false, min, replicate, map, OnOk, IfOk, option_to_list};
 ghost use Rattle.std.specs.List.{flat_map};
 ghost use Rattle.session_book.specs.declared.record.Record.TheVariants as records;
 ghost use Rattle.end_model.specs.Contents.{ceilings_of, tunnel_down, call_down, mark_by, records_of};
@@ -65,38 +65,60 @@ fn push_moves(kept: &mut Records, moves: &[Move]) -> Result<(), NoMemory>
     ensures { OnOk result (kept.new ≡ kept.old ++ flat_map (λ m. records_of m) moves.now) }
 {
     for step in moves {
-        if let Some(left) = left_by(step)? {
-            kept.push(left)?;
-        }
+        push_left(kept, step)?;
     }
     Ok(())
 }
 
-// What a move leaves, if anything.
+// A record, if there is one, behind others.
+fn push(kept: &mut Records, left: Option<Record>) -> Result<(), NoMemory>
+    ensures { OnOk result (kept.new ≡ kept.old ++ option_to_list left) }
+{
+    match left {
+        Some(left) => kept.push(left),
+        None => Ok(()),
+    }
+}
+
+// What a move leaves, behind other records.
 #[tactic(auto, unfolding(end_model::specs::Contents::records_of))]
-fn left_by(step: &Move) -> Result<Option<Record>, NoMemory>
-    ensures { IfOk result (λ left. option_to_list left ≡ records_of step.now) }
+fn push_left(kept: &mut Records, step: &Move) -> Result<(), NoMemory>
+    ensures { OnOk result (kept.new ≡ kept.old ++ records_of step.now) }
 {
     match step {
-        Move::Connected(up) => Ok(Some(tunnel_up(
+        Move::Connected(up) => kept.push(tunnel_up(
             up.tunnel, up.remote, up.peer, up.window, up.flags,
-        ))),
-        Move::Confirmed(up) => Ok(Some(tunnel_up(
+        )),
+        Move::Confirmed(up) => kept.push(tunnel_up(
             up.tunnel, up.remote, up.peer, up.window, up.flags,
-        ))),
-        Move::FirstUp(up) => Ok(Some(first_up(up))),
-        Move::SecondUp(up) => Ok(Some(second_up(up))),
-        Move::EndTold(end) => Ok(call_down(end.booked, end.session)),
-        Move::EndHeard(end) => call_down_at(end.booked, end.session),
-        Move::EndSilent(end) => Ok(call_down(end.booked, end.session)),
-        Move::Closed(end) => Ok(tunnel_down(end.booked, end.tunnel)),
-        Move::ClosedBy(end) => Ok(tunnel_down(end.booked, end.tunnel)),
-        Move::Cleared { tunnel, booked } => Ok(tunnel_down(*booked, *tunnel)),
-        Move::Forgot(gone) => Ok(tunnel_down(true, gone.tunnel)),
-        Move::Froze(frozen) => Ok(mark_by(frozen.marked, frozen.tunnel, frozen.asked)),
-        Move::ResetAttempting(reset) => Ok(mark_by(reset.marked, reset.tunnel, reset.draw)),
-        _ => Ok(None),
+        )),
+        Move::FirstUp(up) => kept.push(first_up(up)),
+        Move::SecondUp(up) => kept.push(second_up(up)),
+        Move::EndTold(end) => push(kept, call_down(end.booked, end.session)),
+        Move::EndHeard(end) => push(kept, call_down_at(end.booked, end.session)?),
+        Move::EndSilent(end) => push(kept, call_down(end.booked, end.session)),
+        Move::TookAnswer(took) => push_ends(kept, took.ended.as_slice()),
+        Move::Closed(end) => push(kept, tunnel_down(end.booked, end.tunnel)),
+        Move::ClosedBy(end) => push(kept, tunnel_down(end.booked, end.tunnel)),
+        Move::Cleared { tunnel, booked } => push(kept, tunnel_down(*booked, *tunnel)),
+        Move::Forgot(gone) => push(kept, tunnel_down(true, gone.tunnel)),
+        Move::Froze(frozen) => push(kept, mark_by(frozen.marked, frozen.tunnel, frozen.asked)),
+        Move::ResetAttempting(reset) => push(kept, mark_by(reset.marked, reset.tunnel, reset.draw)),
+        _ => Ok(()),
     }
+}
+
+// The calls of these ids are gone, behind other records. An id of a table fits a record only where it has 16 bits.
+fn push_ends(kept: &mut Records, ended: &[u32]) -> Result<(), NoMemory>
+    ensures { OnOk result (kept.new ≡ kept.old ++ map (λ s. records.CallDown s) ended.now) }
+{
+    for id in ended {
+        let Ok(local) = u16::try_from(*id) else {
+            return Err(NoMemory);
+        };
+        kept.push(Record::CallDown { local })?;
+    }
+    Ok(())
 }
 
 // A tunnel that is connected: the ids of both its ends (RFC 2661 section 3.1), the address, the receive window in messages (section

@@ -7,11 +7,11 @@ use Rattle.id_table.specs.Ids.{at, ids_of}
 use Rattle.id_table.specs.Order.{Ascends}
 use Rattle.wire_base.specs.declared.pair.Pair.{Pair}
 use Rattle.end_model.specs.declared.tunnel.Call.{Call}
-use Rattle.end_model.specs.Calls.{is_up}
+use Rattle.end_model.specs.Calls.{is_up, pair_of, is_session, sessions_of}
 use Rattle.tunnel_timers.specs.Bounds.{AreFound, all_found}
 use Rattle.tunnel_calls.specs.declared.telling.CallRows.{CallRows}
 use Rattle.tunnel_calls.specs.Replays.{replays, AllReplay}
-use Rattle.tunnel_calls.specs.Telling.{told_of, rows_of, rows_at, pair_of, is_established, pairs_of, pairs_at, lead_to, RowsLead}
+use Rattle.tunnel_calls.specs.Telling.{told_of, rows_of, rows_at, pairs_at, lead_to, RowsLead}
 
 rows_by : (es fs : List (ℕ × Call)) → AreFound es fs → flat_map (λ s. rows_at s (at es s)) (ids_of fs) ≡ map told_of fs
 rows_by es [] found = refl
@@ -33,18 +33,18 @@ pair_added : (b : Bool) (c : ℕ × Call) (more : List (ℕ × Call)) (ps : List
 pair_added true c more ps h = ap (λ k. pair_of c ∷ k) h
 pair_added false c more ps h = h
 
-pairs_by : (es fs : List (ℕ × Call)) → AreFound es fs → flat_map (λ s. pairs_at s (at es s)) (ids_of fs) ≡ map pair_of (filter is_established fs)
+pairs_by : (es fs : List (ℕ × Call)) → AreFound es fs → flat_map (λ s. pairs_at s (at es s)) (ids_of fs) ≡ map pair_of (filter is_session fs)
 pairs_by es [] found = refl
 pairs_by es (x ∷ fs) found =
     ap (λ o. pairs_at x.0 o ++ flat_map (λ s. pairs_at s (at es s)) (ids_of fs)) found.0
-    ∙ pair_added (is_up x.1.state) x (filter is_established fs) _ (pairs_by es fs found.1)
+    ∙ pair_added (is_up x.1.state) x (filter is_session fs) _ (pairs_by es fs found.1)
 
-pub pairs_listed : (calls : List (ℕ × Call)) → Ascends calls → flat_map (λ s. pairs_at s (at calls s)) (ids_of calls) ≡ pairs_of calls
-unfolding pairs_of
+pub pairs_listed : (calls : List (ℕ × Call)) → Ascends calls → flat_map (λ s. pairs_at s (at calls s)) (ids_of calls) ≡ sessions_of calls
+unfolding sessions_of
 pairs_listed calls ascend = pairs_by calls calls (all_found calls ascend)
 
 pub pairs_told : {E : Type 0} (calls : List (ℕ × Call)) (ids : List ℕ) (told : Result (List Pair) E) → Ascends calls → ids ≡ ids_of calls
-    → IfOk told (λ pairs. pairs ≡ flat_map (λ s. pairs_at s (at calls s)) ids) → IfOk told (λ pairs. pairs ≡ pairs_of calls)
+    → IfOk told (λ pairs. pairs ≡ flat_map (λ s. pairs_at s (at calls s)) ids) → IfOk told (λ pairs. pairs ≡ sessions_of calls)
 pairs_told calls ids (Ok pairs) ascend all h = h ∙ ap (flat_map (λ s. pairs_at s (at calls s))) all ∙ pairs_listed calls ascend
 pairs_told calls ids (Err e) ascend all h = tt
 

@@ -1,2 +1,3 @@
 pub mod ById
+pub mod Here
 pub mod Listing

@@ -1,9 +1,9 @@
 -- What a tunnel tells of its calls: the rows of the tables that each went through, and which of them are established.
-use Rattle.std.specs.Prelude.{◌≡◌, ℕ, Bool, true, false, ◌&&◌, if◌then◌else◌, List, [], ◌∷◌, map, filter, All, Option, Some, None}
+use Rattle.std.specs.Prelude.{◌≡◌, ℕ, Bool, true, false, ◌&&◌, if◌then◌else◌, List, [], ◌∷◌, map, All, Option, Some, None}
 use Rattle.wire_base.specs.declared.pair.Pair.{Pair}
 use Rattle.id_table.specs.Ids.{at}
 use Rattle.end_model.specs.declared.tunnel.Call.{Call}
-use Rattle.end_model.specs.Calls.{is_up}
+use Rattle.end_model.specs.Calls.{is_up, pair_of}
 use Rattle.tunnel_calls.specs.declared.telling.CallRows.{CallRows}
 use Rattle.tunnel_calls.specs.Replays.{began, is_beginning, leads}
 
@@ -14,17 +14,6 @@ told_of c = record { session = c.0; began = began c.1; steps = c.1.steps }
 -- each call, in order of the session ids
 unfoldable pub rows_of : List (ℕ × Call) → List CallRows
 rows_of calls = map told_of calls
-
--- a session by its two ids, the own one first
-abbrev pub pair_of : ℕ × Call → Pair
-pair_of c = record { sender = c.0; receiver = c.1.remote }
-
-abbrev pub is_established : ℕ × Call → Bool
-is_established c = is_up c.1.state
-
--- the calls that are established, in order of the session ids
-unfoldable pub pairs_of : List (ℕ × Call) → List Pair
-pairs_of calls = map pair_of (filter is_established calls)
 
 -- ---- by the ids of the calls
 

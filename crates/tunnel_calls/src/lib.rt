@@ -10,6 +10,7 @@ ghost use Rattle.end_model.specs.Asking.{is_call_of, call_of, session_named};
 ghost use Rattle.tunnel_timers.specs.Due.{IsNoLater, bound_of, call_due, calls_due, due_at, earliest_at};
 ghost use Rattle.tunnel_calls.specs.Replays.{replays};
 
+mod answering;
 mod telling;
 
 use call_fsm::CallState;

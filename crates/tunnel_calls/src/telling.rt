@@ -2,9 +2,9 @@
 
 ghost use Rattle.std.specs.Prelude.{◌≡◌, ◌++◌, OnOk, IfOk, Some, flat_map};
 ghost use Rattle.id_table.specs.Ids.{at};
-ghost use Rattle.end_model.specs.Calls.{is_up};
+ghost use Rattle.end_model.specs.Calls.{is_up, sessions_of};
 ghost use Rattle.tunnel_calls.specs.Replays.{began};
-ghost use Rattle.tunnel_calls.specs.Telling.{told_of, rows_of, rows_at, pairs_of, pairs_at, RowsLead};
+ghost use Rattle.tunnel_calls.specs.Telling.{told_of, rows_of, rows_at, pairs_at, RowsLead};
 
 use crate::TunnelCalls;
 use call_fsm::CallState;
@@ -36,7 +36,7 @@ fn began(call: &Call) -> CallState
     }
 }
 
-fn is_established(state: CallState) -> bool
+pub(crate) fn is_established(state: CallState) -> bool
     ensures { result ≡ is_up state }
 {
     matches!(state, CallState::Established)
@@ -103,7 +103,7 @@ impl TunnelCalls {
 
     /// The calls that are established, in order of the session ids: each by its own id and the one that the peer assigned.
     pub fn established(&self) -> Result<Pairs, NoMemory>
-        ensures { IfOk result (λ pairs. pairs ≡ pairs_of self.now.entries) }
+        ensures { IfOk result (λ pairs. pairs ≡ sessions_of self.now.entries) }
     {
         let sessions = self.table.ids(self.alloc)?;
         pairs_at(self.alloc, &self.table, sessions.as_slice())

@@ -8,7 +8,7 @@ use Rattle.end_model.specs.declared.tunnel.Call.{Call}
 use Rattle.end_model.specs.declared.tunnel.Control.{Control}
 use Rattle.end_names.specs.declared.role.Role.{Role}
 use Rattle.end_model.specs.declared.tunnel.Config.{Config}
-use Rattle.end_model.specs.Tunnels.{Tunnel, Turn, Recovering, new_tunnel}
+use Rattle.end_model.specs.Tunnels.{Tunnel, Turn, Recovering, Asking, new_tunnel}
 use Rattle.end_model.specs.Events.{with_calls}
 use Rattle.end_model.specs.Recovering.{RecoveryTurn, recovering_turns, hears_recovery, froze}
 use Rattle.end_model.specs.Starting.{restores}
@@ -22,12 +22,14 @@ pub record Core : Type 0 where
   -- the calls, with the room that was made for more
   pub calls : Kept Call
   pub recovery : Option Recovering
+  pub query : Asking
 
 abbrev pub tunnel_of : Core → Tunnel
-tunnel_of c = record (new_tunnel c.control) { letters = c.letters.letters; calls = c.calls.entries; recovery = c.recovery }
+tunnel_of c = record (new_tunnel c.control) { letters = c.letters.letters; calls = c.calls.entries; recovery = c.recovery; query = c.query }
 
 pub record Plan : Type 0 where
   pub control : Control
+  pub query : Asking
   pub acked : ℕ
   pub given : List Letter
   pub cleared : Bool
@@ -43,6 +45,7 @@ recovery_after p before = unwrap_or p.recovery before
 -- the plan of a tunnel with this recovery tunnel has what a turn leads to
 pub record IsTurn (p : Plan) (before : Option Recovering) (t : RecoveryTurn) : Type 0 where
   pub control : p.control ≡ t.turn.control
+  pub query : p.query ≡ t.turn.query
   pub acked : p.acked ≡ t.turn.acked
   pub given : p.given ≡ t.turn.given
   pub cleared : p.cleared ≡ t.turn.cleared
@@ -78,6 +81,7 @@ made_of p t = record t {
   letters = drop p.acked t.letters ++ p.given;
   calls = with_calls p.changed t.calls;
   recovery = recovery_after p t.recovery;
+  query = p.query;
 }
 
 -- there is room for the calls and the letters of a plan

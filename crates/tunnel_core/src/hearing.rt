@@ -3,10 +3,11 @@
 ghost use Rattle.std.specs.Prelude.{◌≡◌, ℕ, false, OnOk};
 ghost use Rattle.control_message.specs.declared.message.Message.TheVariants.{Sccrq, Sccrp, Scccn};
 ghost use Rattle.l2tp_header.specs.Reading.{header_of};
-ghost use Rattle.end_model.specs.Hearing.{connects, takes, about_call, in_call, hears, hears_said, hears_next, hears_letter, is_duplicate, in_tunnel, first_said, mode_why, ignores_all, hears_control, hears_datagram};
+ghost use Rattle.end_model.specs.Hearing.{connects, takes, about_call, in_call, in_query, heeds_answer, hears, hears_said, hears_next, hears_letter, is_duplicate, in_tunnel, first_said, mode_why, ignores_all, hears_control, hears_datagram};
 ghost use Rattle.end_model.specs.Sending.{settles};
 ghost use Rattle.end_model.specs.Asking.{session_named};
 ghost use Rattle.end_model.specs.Connecting.{ends_named};
+ghost use Rattle.end_model.specs.Querying.{told_at};
 
 use crate::faulty::hear_fault;
 use control_message::{Message, Opening};
@@ -14,8 +15,8 @@ use end_model::{Config, Mode, Move, Role};
 use l2tp_datagram::{Body, Datagram};
 use l2tp_header::Header;
 use message_reading::{
-    Reason, Said, connected_event, connected_reason, event_by, no_outgoing, opening_reason,
-    out_of_order, read_body,
+    Reason, Said, connected_event, connected_reason, event_by, no_outgoing, not_asked,
+    opening_reason, out_of_order, read_body,
 };
 use recv_window::Class;
 use send_window::Letters;
@@ -27,12 +28,13 @@ use tunnel_timers::{is_closed, is_current};
 use tunnel_turn::asking::take_request;
 use tunnel_turn::calls::{take_connection, take_end, take_reply};
 use tunnel_turn::openings::{accept, confirm, connect};
+use tunnel_turn::querying::{answer_query, hear, take_answer};
 use tunnel_turn::refusing::refuse;
 use tunnel_turn::ringing::request_all;
 use tunnel_turn::stopping::{close_tunnel, reject, take_stop};
 use tunnel_turn::told::Told;
 use tunnel_turn::turn::Turn;
-use wire_base::{NoMemory, Why};
+use wire_base::{NoMemory, Pair, Why};
 
 /// Takes the SCCRP, and asks for each call that waits for the tunnel.
 #[tactic(auto, unfolding(end_model::specs::Hearing::connects))]
@@ -211,6 +213,38 @@ fn hear_scccn(
     take_letter(turn, role, config, calls, &reason, event, &told)
 }
 
+/// A query of the peer for sessions: only an open tunnel has any.
+#[tactic(auto, unfolding(end_model::specs::Hearing::in_query))]
+fn hear_query(turn: &mut Turn, calls: &TunnelCalls, sessions: &[Pair]) -> Result<(), NoMemory>
+    ensures { OnOk result (turn.new ≡ in_query calls.now.entries sessions.now turn.old) }
+{
+    if turn.control.state != TunnelState::Established {
+        return turn.take_plain();
+    }
+    answer_query(turn, calls, sessions)
+}
+
+/// The answer to a query. One that wasn't asked for closes the tunnel.
+#[tactic(auto, unfolding(end_model::specs::Hearing::heeds_answer))]
+fn hear_answer(
+    turn: &mut Turn,
+    role: Role,
+    config: &Config,
+    calls: &TunnelCalls,
+    answers: &[Pair],
+) -> Result<(), NoMemory>
+    ensures { OnOk result (turn.new ≡ heeds_answer role config.now calls.now.entries answers.now (told_at turn.old.control.state turn.old.query answers.now) turn.old) }
+{
+    if let Some(heard) = hear(turn, answers)? {
+        return take_answer(turn, calls, answers, heard);
+    }
+    let reason = not_asked();
+    let event = TunnelEvent::AdminClose;
+    let none = None;
+    let told = Told::id(&none, 0);
+    take_letter(turn, role, config, calls, &reason, event, &told)
+}
+
 /// The next letter of the peer.
 #[tactic(auto, unfolding(end_model::specs::Hearing::hears))]
 fn hear_letter(
@@ -234,13 +268,10 @@ fn hear_letter(
             let told = Told::id(&none, 0);
             take_letter(turn, role, config, calls, &reason, event, &told)
         }
-        Message::Hello
-        | Message::Ocrp
-        | Message::Occn
-        | Message::Wen
-        | Message::Sli
-        | Message::Fsq(_)
-        | Message::Fsr(_) => turn.take_plain(),
+        Message::Hello | Message::Ocrp | Message::Occn | Message::Wen | Message::Sli =>
+            turn.take_plain(),
+        Message::Fsq(sessions) => hear_query(turn, calls, sessions.as_slice()),
+        Message::Fsr(answers) => hear_answer(turn, role, config, calls, answers.as_slice()),
         _ => hear_in_call(turn, role, calls, session, message),
     }
 }

@@ -4,13 +4,15 @@ ghost use Rattle.std.specs.Prelude.{◌≡◌, ◌≤◌, ◌<◌, ◌++◌, len
 ghost use Rattle.end_model.specs.Sending.{settles};
 ghost use Rattle.end_model.specs.Hearing.{first_said};
 ghost use Rattle.std.specs.Option.{option_copied};
+ghost use Rattle.session_query.specs.Queries.{is_complete};
+ghost use Rattle.end_model.specs.Calls.{sessions_of};
 ghost use Rattle.end_model.specs.Openings.{fresh};
 ghost use Rattle.end_model.specs.Starting.{kept_control};
 ghost use Rattle.end_model.specs.Tunnels.{new_tunnel, turn_of, turn_in, mode_of};
 ghost use Rattle.end_model.specs.Turn.{with_turn};
 ghost use Rattle.end_model.specs.Events.{with_calls, tunnel_after};
 ghost use Rattle.tunnel_timers.specs.Due.{IsNoLater, tunnel_due};
-ghost use Rattle.tunnel_calls.specs.Telling.{rows_of, pairs_of, RowsLead};
+ghost use Rattle.tunnel_calls.specs.Telling.{rows_of, RowsLead};
 ghost use Rattle.tunnel_turn.specs.Changes.{AllCallsReplay};
 ghost use Rattle.tunnel_core.specs.Cores.{tunnel_of, made_of, recovery_after, task_turn, beside, HasId, AllHaveRoom, HasRoomFor, IsTurn};
 
@@ -25,6 +27,7 @@ use id_table::Table;
 use recovery_tunnel::Recovering;
 use send_window::Letters;
 use session_book::BookTunnel;
+use session_query::Query;
 use std::alloc::Global;
 use std::marker::Model;
 use tunnel_calls::{Rows, TunnelCalls};
@@ -51,7 +54,7 @@ impl Model for Planned {
 
     ghost Value = { Plan };
 
-    ghost view = { λ p. record { control = p.turn.value.control; acked = p.turn.value.acked; given = p.turn.value.given; cleared = p.turn.value.cleared; changed = p.turn.value.changed; added = p.turn.value.added; recovery = p.recovery } };
+    ghost view = { λ p. record { control = p.turn.value.control; query = p.turn.value.query; acked = p.turn.value.acked; given = p.turn.value.given; cleared = p.turn.value.cleared; changed = p.turn.value.changed; added = p.turn.value.added; recovery = p.recovery } };
 }
 
 impl Planned {
@@ -103,6 +106,7 @@ pub struct TunnelCore {
     letters: Letters,
     calls: TunnelCalls,
     recovery: Option<Recovering>,
+    query: Query,
 }
 
 impl Model for TunnelCore {
@@ -110,7 +114,7 @@ impl Model for TunnelCore {
 
     ghost Value = { Core };
 
-    ghost view = { λ c. record { control = c.control; letters = c.letters; calls = c.calls; recovery = c.recovery } };
+    ghost view = { λ c. record { control = c.control; letters = c.letters; calls = c.calls; recovery = c.recovery; query = c.query } };
 }
 
 /// The mode of a tunnel that has this recovery tunnel.
@@ -164,6 +168,7 @@ impl TunnelCore {
             letters: Letters::new(alloc),
             calls: TunnelCalls::new(alloc),
             recovery: None,
+            query: Query::none(),
         }
     }
 
@@ -208,7 +213,7 @@ impl TunnelCore {
 
     /// The calls that are established, in order of the session ids: each by its own id and the one that the peer assigned.
     pub fn established(&self) -> Result<Pairs, NoMemory>
-        ensures { IfOk result (λ pairs. pairs ≡ pairs_of self.now.calls.entries) }
+        ensures { IfOk result (λ pairs. pairs ≡ sessions_of self.now.calls.entries) }
     {
         self.calls.established()
     }
@@ -226,6 +231,13 @@ impl TunnelCore {
         ensures { option_copied result ≡ self.now.recovery }
     {
         self.recovery.as_ref()
+    }
+
+    /// Whether it is known of each session that was established at its last reset whether the peer has it.
+    pub fn is_complete(&self) -> bool
+        ensures { result ≡ is_complete self.now.query }
+    {
+        self.query.complete()
     }
 
     /// Whether it is current, frozen or restored.
@@ -267,7 +279,8 @@ impl TunnelCore {
         ensures given { OnOk result (env.new ≡ with_turn (task_turn role config.now (tunnel_of self.old) task.now (turn_in (tunnel_of self.old) env.old)).turn env.old) }
         ensures kept { OnErr result (env.new ≡ env.old) }
     {
-        let turn = Turn::new(self.alloc, self.control, self.mode(), env);
+        let query = self.query.copy()?;
+        let turn = Turn::new(self.alloc, self.control, query, self.mode(), env);
         let mut turn = Box::new(self.alloc, turn)?;
         let recovery = run_task(
             &mut turn,
@@ -296,7 +309,8 @@ impl TunnelCore {
         ensures given { OnOk result (env.new ≡ with_turn (settles false self.old.letters.letters (first_said role config.now said.now (turn_in (tunnel_of self.old) env.old))) env.old) }
         ensures kept { OnErr result (env.new ≡ env.old) }
     {
-        let turn = Turn::new(self.alloc, self.control, self.mode(), env);
+        let query = self.query.copy()?;
+        let turn = Turn::new(self.alloc, self.control, query, self.mode(), env);
         let mut turn = Box::new(self.alloc, turn)?;
         hear_opening(&mut turn, role, config, &self.letters, said)?;
         self.planned(env, turn, None)
@@ -329,6 +343,7 @@ impl TunnelCore {
     {
         let turn = Box::into_inner(planned.turn);
         self.control = turn.control;
+        self.query = turn.query;
         self.letters.drop_first(turn.acked.min(self.letters.len()));
         give_all(&mut self.letters, turn.given);
         put_all(&mut self.calls, turn.changed);

@@ -4,7 +4,7 @@ ghost use Rattle.std.specs.Prelude.{◌≡◌, Some, IfOk, OnOk, option_copied};
 ghost use Rattle.recovery_tunnel.specs.declared.progress.Progress.TheVariants as told;
 ghost use Rattle.recovery_tunnel.specs.declared.either.Recovering.TheVariants.{ByAttempt, ByAnswer};
 ghost use Rattle.end_model.specs.Reading.{message_in};
-ghost use Rattle.end_model.specs.Recovering.{with_recovery, resets, resets_by, follows, told_by, after_message, cause_by, told_by_fault, after_fault, heeds, hears_class, is_acknowledged, settles_on, is_over_now, without_recovery, ends_attempt, hears_read, hears_recovery};
+ghost use Rattle.end_model.specs.Recovering.{with_recovery, resets, resets_by, goes, begins_to_ask, follows, told_by, after_message, cause_by, told_by_fault, after_fault, heeds, hears_class, is_acknowledged, settles_on, is_over_now, without_recovery, ends_attempt, hears_read, hears_recovery};
 
 use crate::sending::{acknowledge, let_go};
 use control_message::{Message, Suggested};
@@ -15,20 +15,31 @@ use message_reading::{CallFault, TunnelFault, read_body};
 use recovery_tunnel::{Answer, Attempt, Progress, Recovering};
 use recv_window::Class;
 use send_window::Letters;
+use session_query::Query;
 use tunnel_calls::TunnelCalls;
+use tunnel_turn::querying::ask_next;
 use tunnel_turn::stopping::clear;
 use tunnel_turn::turn::{Given, Turn};
 use wire_base::{Bytes, Cause, NoMemory, Why};
 
-/// The tunnel's channel begins anew, without a letter.
+/// The tunnel's channel begins anew, without a letter. The calls that are established are those to ask for.
 #[tactic(auto, unfolding(end_model::specs::Recovering::resets), using(crate::proofs::Numbers::on_wire_is))]
-fn reset(turn: &mut Turn, letters: &Letters, send_from: u16, expect: u16, mark: u32)
-    ensures { turn.new ≡ resets send_from expect mark letters.now.letters turn.old }
+fn reset(
+    turn: &mut Turn,
+    letters: &Letters,
+    calls: &TunnelCalls,
+    send_from: u16,
+    expect: u16,
+    mark: u32,
+) -> Result<(), NoMemory>
+    ensures { OnOk result (turn.new ≡ resets send_from expect mark letters.now.letters calls.now.entries turn.old) }
 {
+    turn.query = Query::start(calls.established()?)?;
     turn.control.channel.reset_to(send_from, expect);
     turn.control.mark = mark;
     turn.given = Given::new(turn.alloc);
     turn.acked = letters.len();
+    Ok(())
 }
 
 /// The tunnel is reset by its end that attempts the recovery, to the numbers that the other one suggested with its draw number.
@@ -36,15 +47,16 @@ fn reset(turn: &mut Turn, letters: &Letters, send_from: u16, expect: u16, mark: 
 fn reset_attempting(
     turn: &mut Turn,
     letters: &Letters,
+    calls: &TunnelCalls,
     attempt: &Attempt,
     suggested: Suggested,
     draw: u32,
 ) -> Result<(), NoMemory>
-    ensures { OnOk result (turn.new ≡ resets_by letters.now.letters suggested draw (ByAttempt attempt.now) turn.old) }
+    ensures { OnOk result (turn.new ≡ resets_by letters.now.letters calls.now.entries suggested draw (ByAttempt attempt.now) turn.old) }
 {
     let control = turn.control;
     let mark = control.mark.max(draw);
-    reset(turn, letters, suggested.ns, suggested.nr, mark);
+    reset(turn, letters, calls, suggested.ns, suggested.nr, mark)?;
     turn.did(Move::ResetAttempting(ResetAttempting {
         tunnel: control.local,
         peer: control.peer,
@@ -63,14 +75,22 @@ fn reset_attempting(
 fn reset_answering(
     turn: &mut Turn,
     letters: &Letters,
+    calls: &TunnelCalls,
     answer: &Answer,
     suggested: Suggested,
     draw: u32,
 ) -> Result<(), NoMemory>
-    ensures { OnOk result (turn.new ≡ resets_by letters.now.letters suggested draw (ByAnswer answer.now) turn.old) }
+    ensures { OnOk result (turn.new ≡ resets_by letters.now.letters calls.now.entries suggested draw (ByAnswer answer.now) turn.old) }
 {
     let control = turn.control;
-    reset(turn, letters, suggested.nr, suggested.ns, control.mark);
+    reset(
+        turn,
+        letters,
+        calls,
+        suggested.nr,
+        suggested.ns,
+        control.mark,
+    )?;
     turn.did(Move::ResetAnswering(ResetAnswering {
         tunnel: control.local,
         peer: control.peer,
@@ -86,15 +106,20 @@ fn reset_answering(
 fn reset_by(
     turn: &mut Turn,
     letters: &Letters,
+    calls: &TunnelCalls,
     recovery: &Recovering,
     suggested: Suggested,
     draw: u32,
 ) -> Result<(), NoMemory>
-    ensures { OnOk result (turn.new ≡ resets_by letters.now.letters suggested draw recovery.now turn.old) }
+    ensures { OnOk result (turn.new ≡ resets_by letters.now.letters calls.now.entries suggested draw recovery.now turn.old) }
 {
     match recovery {
-        Recovering::ByAttempt(attempt) => reset_attempting(turn, letters, attempt, suggested, draw),
-        Recovering::ByAnswer(answer) => reset_answering(turn, letters, answer, suggested, draw),
+        Recovering::ByAttempt(attempt) => {
+            reset_attempting(turn, letters, calls, attempt, suggested, draw)
+        }
+        Recovering::ByAnswer(answer) => {
+            reset_answering(turn, letters, calls, answer, suggested, draw)
+        }
     }
 }
 
@@ -114,6 +139,23 @@ fn give_up(
     clear(turn, calls)
 }
 
+/// The tunnel is reset, the letter of the recovery tunnel goes, and then the tunnel begins to ask for its sessions.
+#[tactic(auto, using(crate::proofs::Heard::asks_behind))]
+fn go_on(
+    turn: &mut Turn,
+    letters: &Letters,
+    calls: &TunnelCalls,
+    suggested: Suggested,
+    draw: u32,
+    recovery: &mut Recovering,
+) -> Result<(), NoMemory>
+    ensures { OnOk result (with_recovery recovery.new turn.new ≡ begins_to_ask letters.now.letters (goes recovery.old (resets_by letters.now.letters calls.now.entries suggested draw recovery.old turn.old))) }
+{
+    reset_by(turn, letters, calls, recovery, suggested, draw)?;
+    let_go(turn, recovery)?;
+    ask_next(turn, letters)
+}
+
 /// What becomes of the tunnel.
 #[tactic(auto, unfolding(end_model::specs::Recovering::follows))]
 fn follow(
@@ -131,8 +173,8 @@ fn follow(
             suggested,
             peer_draw,
         } => {
-            reset_by(turn, letters, recovery, suggested, peer_draw.unwrap_or(0))?;
-            let_go(turn, recovery)
+            let draw = peer_draw.unwrap_or(0);
+            go_on(turn, letters, calls, suggested, draw, recovery)
         }
         Progress::Given { cause } => give_up(turn, letters, calls, cause, recovery),
         Progress::Cleared => clear(turn, calls),

@@ -67,6 +67,7 @@ impl Env {
         ensures ok { OnOk result (self.new ≡ with_turn turn.old self.old) }
         ensures err { OnErr result (self.new ≡ self.old) }
         ensures control { turn.new.control ≡ turn.old.control }
+        ensures query { turn.new.query ≡ turn.old.query }
         ensures acked { turn.new.acked ≡ turn.old.acked }
         ensures given { turn.new.given ≡ turn.old.given }
         ensures cleared { turn.new.cleared ≡ turn.old.cleared }

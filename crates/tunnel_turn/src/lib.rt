@@ -11,6 +11,7 @@ pub mod env;
 pub mod frames;
 pub mod links;
 pub mod openings;
+pub mod querying;
 pub mod refusing;
 pub mod ringing;
 pub mod sending;

@@ -11,6 +11,7 @@ use crate::env::{Env, Moves, Outputs};
 use end_model::{Call, Control, Mode, Move, Out};
 use id_source::{IdError, Ids};
 use session_looks::{CellChange, CellChanges};
+use session_query::Query;
 use std::alloc::Global;
 use std::marker::Model;
 use wire_base::{Letter, NoMemory, Sequence, Why};
@@ -31,6 +32,8 @@ pub struct Turn {
     /// The mode that the tunnel had before the step.
     pub mode: Mode,
     pub control: Control,
+    /// The sessions that the tunnel asks for since its last reset.
+    pub query: Query,
     /// The letters that the step gave to the channel, in order.
     pub given: Given,
     /// How many of the tunnel's letters the step's Nr acknowledged.
@@ -59,15 +62,15 @@ impl Model for Turn {
 
     ghost Value = { Known };
 
-    ghost view = { λ t. record { on = record { moment = t.moment; block = t.block; mode = t.mode }; ids = record { tunnels = t.tunnels; sessions = t.sessions; recoveries = t.recoveries }; control = t.control; given = t.given; acked = t.acked; took = t.took; cleared = t.cleared; changed = t.changed; added = t.added; outputs = t.outputs; changes = t.changes; moves = t.moves } };
+    ghost view = { λ t. record { on = record { moment = t.moment; block = t.block; mode = t.mode }; ids = record { tunnels = t.tunnels; sessions = t.sessions; recoveries = t.recoveries }; control = t.control; query = t.query; given = t.given; acked = t.acked; took = t.took; cleared = t.cleared; changed = t.changed; added = t.added; outputs = t.outputs; changes = t.changes; moves = t.moves } };
 
     ghost invariant = { λ t. (t.tunnels.last ≤ 65535) × (t.sessions.last ≤ 65535) × AllCallsReplay t.changed };
 }
 
 impl Turn {
     /// A turn of a tunnel, in which nothing is done so far.
-    pub fn new(alloc: Global, control: Control, mode: Mode, env: &Env) -> Turn
-        ensures { result ≡ turn_of control (record env.now { on = record env.now.on { mode = mode } }) }
+    pub fn new(alloc: Global, control: Control, query: Query, mode: Mode, env: &Env) -> Turn
+        ensures { result ≡ record (turn_of control (record env.now { on = record env.now.on { mode = mode } })) { query = query } }
     {
         Turn {
             alloc,
@@ -75,6 +78,7 @@ impl Turn {
             block: env.block,
             mode,
             control,
+            query,
             given: Given::new(alloc),
             acked: 0,
             took: false,

@@ -1,5 +1,5 @@
 -- The run of a schedule, and its report.
-use Rattle.std.specs.Prelude.{ℕ, ◌+◌, count_by, List, [], ◌∷◌, ◌++◌, Bool, false, ◌==◌, ◌&&◌, if◌then◌else◌, codes, Option, Some, None, Result, Ok, Err}
+use Rattle.std.specs.Prelude.{ℕ, ◌+◌, count_by, List, [], ◌∷◌, ◌++◌, Bool, true, false, ◌==◌, ◌&&◌, if◌then◌else◌, codes, Option, Some, None, Result, Ok, Err}
 use Rattle.std.specs.List.{flat_map}
 use Rattle.std.specs.Fmt.{decimal}
 use Rattle.id_table.specs.Ids.{at, ids_of}
@@ -11,6 +11,7 @@ use Rattle.tunnel_fsm.specs.declared.table.TunnelState.{TunnelState}
 use Rattle.tunnel_fsm.specs.Rows.{state_number}
 use Rattle.call_fsm.specs.Words as call_words
 use Rattle.control_channel.specs.Numbers.{next_given}
+use Rattle.session_query.specs.Queries.{is_complete}
 use Rattle.world_model.specs.declared.refusal.Refusal.{Refusal}
 use Rattle.world_model.specs.declared.refusal.Refusal.TheVariants.{Unfit, HalfSpace, Stale, StoreFull}
 use Rattle.end_model.specs.declared.tunnel.Call.{Call}
@@ -59,10 +60,14 @@ mode_word Current = codes "current"
 mode_word Frozen = codes "frozen"
 mode_word Restored = codes "restored"
 
--- No end asks for its calls after a reset, so each tunnel is complete.
-unfoldable pub tunnel_text : ℕ → Control → ℕ → Mode → List ℕ
-tunnel_text n t epoch mode =
-    ended (codes "end" & decimal n & codes "tunnel" & decimal t.local & decimal (node_of t.peer) & decimal t.remote & state_word t.state & decimal epoch & mode_word mode & codes "complete")
+-- whether it is known of each session that was established at the tunnel's last reset whether the peer has it
+abbrev pub query_word : Bool → List ℕ
+query_word true = codes "complete"
+query_word false = codes "asking"
+
+unfoldable pub tunnel_text : ℕ → Control → ℕ → Mode → Bool → List ℕ
+tunnel_text n t epoch mode complete =
+    ended (codes "end" & decimal n & codes "tunnel" & decimal t.local & decimal (node_of t.peer) & decimal t.remote & state_word t.state & decimal epoch & mode_word mode & query_word complete)
 
 -- a call of a tunnel, with its birth
 unfoldable pub call_text : ℕ → ℕ → ℕ → Call → ℕ → List ℕ
@@ -80,7 +85,7 @@ call_table n i births calls = flat_map (λ s. call_line n i births s (at calls s
 unfoldable pub tunnel_line : ℕ → Node → ℕ → Option Tunnel → List ℕ
 tunnel_line n node i None = []
 tunnel_line n node i (Some t) =
-    tunnel_text n t.control (standing_in (Some node) i).epoch (mode_of t.recovery) ++ call_table n i node.births t.calls
+    tunnel_text n t.control (standing_in (Some node) i).epoch (mode_of t.recovery) (is_complete t.query) ++ call_table n i node.births t.calls
 
 -- a node that is down
 unfoldable pub down_text : ℕ → List ℕ
@@ -115,13 +120,13 @@ agree n t u =
     && u.remote == t.local && node_of u.peer == n
     && u.channel.inbox.taken == next_given t.channel && t.channel.inbox.taken == next_given u.channel
 
--- a tunnel whose channel carries messages
-abbrev pub is_at_work : Tunnel → Bool
-is_at_work t = is_current (mode_of t.recovery)
+-- a tunnel whose channel carries messages, and which knows of its sessions since its last reset
+abbrev pub is_resynchronised : Tunnel → Bool
+is_resynchronised t = is_current (mode_of t.recovery) && is_complete t.query
 
 abbrev pub are_alike : List (ℕ × Node) → ℕ → Tunnel → Tunnel → Bool
 are_alike nodes n t u =
-    (is_at_work t && is_at_work u)
+    (is_resynchronised t && is_resynchronised u)
     && ((standing_in (at nodes n) t.control.local).epoch == (standing_in (at nodes (node_of t.control.peer)) u.control.local).epoch
     && agree n t.control u.control)
 
