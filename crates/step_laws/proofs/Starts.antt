@@ -30,6 +30,7 @@ use Rattle.end_model.specs.declared.tunnel.Call.{Call}
 use Rattle.end_model.specs.declared.tunnel.Config.{Config}
 use Rattle.end_model.specs.declared.tunnel.Mode.TheVariants.{Restored as IsRestored}
 use Rattle.end_model.specs.declared.event.Event.{Event}
+use Rattle.end_model.specs.declared.event.Event.TheVariants.{Tick}
 use Rattle.end_model.specs.declared.moves.Move.{Move}
 use Rattle.end_model.specs.declared.moves.Move.TheVariants as move
 use Rattle.end_model.specs.Calls.{owed_by, counted as counted_call, counted_all}
@@ -47,9 +48,9 @@ use Rattle.end_model.specs.End.{End, Stepped, env_of, after_turn, tunnels_after}
 use Rattle.step_laws.specs.Letters.{IsRecoveryLetter, Among}
 use Rattle.step_laws.specs.Moves.{calls_back, looks_back}
 use Rattle.step_laws.specs.Steps.{AreKept, IsChain, IsOfMoves, IsOfNoStart}
-use Rattle.step_laws.specs.Starts.{StartsAreChains}
+use Rattle.step_laws.specs.Starts.{IsOfLink, IsOfStart, StartsAreChains, StartsAreOfBooks}
 use Rattle.step_laws.proofs.Booked.{TunnelsRise, CallsRise, IsBook, sound_book}
-use Rattle.step_laws.proofs.Lists.{all_map, branch, all_push}
+use Rattle.step_laws.proofs.Lists.{all_map, branch, all_push, all_append}
 use Rattle.step_laws.proofs.Turns.{next_after}
 use Rattle.step_laws.proofs.Settling.{Settled}
 use Rattle.step_laws.proofs.Secrets.{asks_so}
@@ -266,7 +267,7 @@ module _ (e : End) (kept : AreKept e) (moment : ℕ) (ev : Event) (block : List 
             ground = start.on;
             at_moment = refl;
             recovery = q;
-            is = record { connection = record attempt { channel = channel }; is = refl; local_is = refl; draw_is = refl; waits = refl };
+            is = record { connection = record attempt { channel = channel }; is = refl; local_is = refl; remote_is = refl; draw_is = refl; waits = refl };
             after = rw (calls, same) refl;
           },
           refl,
@@ -412,18 +413,24 @@ module _ (e : End) (kept : AreKept e) (moment : ℕ) (ev : Event) (block : List 
     pub rest : List Move
     pub is : ms ≡ back ∷ rest
     pub so : AllByRecursion IsOfNoStart rest
+    pub links : AllByRecursion IsOfLink rest
 
-  from_on : (ms : List Move) (m : Move) → IsOfNoStart m → FromBack ms → FromBack (ms ++ m ∷ [])
-  from_on ms m so h = record { rest = h.rest ++ m ∷ []; is = ap (λ xs. xs ++ m ∷ []) h.is; so = all_push IsOfNoStart h.rest m h.so so }
+  from_on : (ms : List Move) (m : Move) → IsOfNoStart m → IsOfLink m → FromBack ms → FromBack (ms ++ m ∷ [])
+  from_on ms m so link h = record {
+    rest = h.rest ++ m ∷ [];
+    is = ap (λ xs. xs ++ m ∷ []) h.is;
+    so = all_push IsOfNoStart h.rest m h.so so;
+    links = all_push IsOfLink h.rest m h.links link;
+  }
 
   counts_from : (s : ℕ) (c : Call) (o : Option ℕ) (u : Turn) → FromBack u.moves → FromBack (counts s c o u).moves
   unfolding counts with_move with_call
   counts_from s c None u h = h
-  counts_from s c (Some number) u h = from_on u.moves _ tt h
+  counts_from s c (Some number) u h = from_on u.moves _ tt tt h
 
   carried_from : (s : ℕ) (frame : List ℕ) (c : Call) (u : Turn) → FromBack u.moves → FromBack (carried s frame c u).moves
   unfolding carried sends_frame with_output with_move
-  carried_from s frame c u h = counts_from s c c.sequence (sends_frame s frame c u) (from_on u.moves _ tt h)
+  carried_from s frame c u h = counts_from s c c.sequence (sends_frame s frame c u) (from_on u.moves _ tt tt h)
 
   frames_from : (s : ℕ) (fs : List (List ℕ)) (c : Call) (u : Turn) → FromBack u.moves → FromBack (sends_frames s fs c u).moves
   unfolding sends_frames
@@ -432,7 +439,7 @@ module _ (e : End) (kept : AreKept e) (moment : ℕ) (ev : Event) (block : List 
 
   negotiated_from : (s : ℕ) (c : Call) (v : LinkTurn) (u : Turn) → FromBack u.moves → FromBack (negotiated s c v u).moves
   unfolding negotiated with_looks_of with_move with_call
-  negotiated_from s c v u h = from_on (sends_frames s v.frames c u).moves _ tt (frames_from s v.frames c u h)
+  negotiated_from s c v u h = from_on (sends_frames s v.frames c u).moves _ tt tt (frames_from s v.frames c u h)
 
   links_from : (r : Role) (ds : List BookCall) (u : Turn) → FromBack u.moves → FromBack (opens_links r ds u).moves
   unfolding opens_links opens_link links_by
@@ -522,7 +529,7 @@ module _ (e : End) (kept : AreKept e) (moment : ℕ) (ev : Event) (block : List 
   restored_from =
       let w = has_gone in
       let moves : gone.turn.moves ≡ back ∷ [] = ap (λ (u : Turn). u.moves) w.only in
-      let first : FromBack gone.turn.moves = record { rest = []; is = moves; so = tt } in
+      let first : FromBack gone.turn.moves = record { rest = []; is = moves; so = tt; links = tt } in
       subst (λ (u : Turn). FromBack (opens_links e.role cs (attempted e.role e.config local draw (with_move back u)).turn).moves) (sym (keeps_is e.role cs start))
       (links_from e.role cs gone.turn first)
 
@@ -641,3 +648,61 @@ starts_are_chains r c k sound moment block ev =
       chain = record { chain = refl; outputs = tt; frames = tt; kept = bare_kept r c k };
       up = λ j t there. absurd (none-some t (sym (at-none j) ∙ there));
     })
+
+-- ---- its moves are of the book
+
+module _ (k : Kept) (book : IsBook k) (moment : ℕ) (block : List ℕ) (ev : Event) where
+  links_of : (ms : List Move) → AllByRecursion IsOfLink ms → AllByRecursion (IsOfStart k) ms
+  links_of [] so = tt
+  links_of (m ∷ ms) so = (one m so.0, links_of ms so.1)
+    where
+      one : (m : Move) → IsOfLink m → IsOfStart k m
+      one (move.Negotiated m) so = tt
+      one (move.Counted m) so = tt
+      one (move.FrameSent m) so = tt
+      one m so = absurd so
+
+  module _ (x : End) (kept : AreKept x) (n : ℕ) (up : AreUpTo n x.tunnels) (b : BookTunnel) (over : n < b.local)
+      (among : Among b k.tunnels) where
+    abbrev its_calls : List BookCall
+    its_calls = calls_of b.local k.calls
+
+    of_ids : can_recover b ≡ true → (p q : Result ℕ IdError) → takes_id x.tunnel_ids ≡ p → takes_id x.recovery_ids ≡ q
+        → AllByRecursion (IsOfStart k) (restored_by x (env_of x moment block) its_calls b p q).moves
+    unfolding restored_by forgets
+    of_ids can (Err y) q drawn drew = (tt, tt)
+    of_ids can (Ok local) (Err y) drawn drew = (tt, tt)
+    of_ids can (Ok local) (Ok draw) drawn drew =
+        let from = restored_from x kept moment ev block b its_calls (none_above n b.local x.tunnels up over)
+        (λ z. absurd (omega (arith, z, over))) 0
+        (rise_filter (λ c. c.tunnel == b.local) 0 k.calls book.calls) (book.few b.local) can local draw drawn drew in
+        subst (AllByRecursion (IsOfStart k)) (sym from.is) ((among, refl), links_of from.rest from.links)
+
+    of_one : AllByRecursion (IsOfStart k) (restored k x (env_of x moment block) b).moves
+    unfolding restored forgets
+    of_one =
+        branch (λ (s : Stepped). AllByRecursion (IsOfStart k) s.moves) (can_recover b) _ _
+        (λ can. of_ids can (takes_id x.tunnel_ids) (takes_id x.recovery_ids) refl refl)
+        (λ cannot. (tt, tt))
+
+  all_of : (x : End) (bs : List BookTunnel) (n : ℕ) (s : Stepped) → ((b : BookTunnel) → Among b bs → Among b k.tunnels) → TunnelsRise n bs
+      → IsBack k book moment block ev x n s → AllByRecursion (IsOfStart k) s.moves
+      → AllByRecursion (IsOfStart k) (restored_all k moment block bs s).moves
+  unfolding restored_all
+  all_of x [] n s within rise h so = so
+  all_of x (b ∷ bs) n s within rise h so =
+      let y = restored k s.end (env_of s.end moment block) b in
+      let one = comes_back k book moment block ev s.end h.chain.kept n h.up b rise.0 in
+      all_of x bs b.local (behind_all s y) (λ c a. within c (inr a)) rise.1
+      (record { chain = both_chain moment ev x s y h.chain one.chain; up = one.up })
+      (all_append (IsOfStart k) s.moves y.moves so (of_one s.end h.chain.kept n h.up b rise.0 (within b (inl refl))))
+
+pub starts_are_of_books : StartsAreOfBooks
+unfolding starts
+starts_are_of_books r c k sound moment block =
+    let book = sound_book k sound in
+    all_of k book moment block Tick (bare_end r c k) k.tunnels 0 (record { end = bare_end r c k; outputs = []; moves = [] })
+    (λ b a. a) book.tunnels (record {
+      chain = record { chain = refl; outputs = tt; frames = tt; kept = bare_kept r c k };
+      up = λ j t there. absurd (none-some t (sym (at-none j) ∙ there));
+    }) tt

@@ -428,11 +428,12 @@ pub record HandsUp (e : End) (ev : Event) (m : FrameUp) (x : End) : Type 0 where
 
 -- ---- recoveries
 
--- an attempt, and an answer, that hasn't reset its tunnel yet
+-- an attempt, and an answer, that hasn't reset its tunnel yet; the attempt doesn't know the id of the other end yet
 pub record IsAttempt (r : Recovering) (local draw : ℕ) : Type 0 where
   pub connection : ControlConnection
   pub is : r ≡ ByAttempt connection
   pub local_is : connection.local ≡ local
+  pub remote_is : connection.remote ≡ 0
   pub draw_is : connection.draw ≡ draw
   pub waits : is_waiting connection ≡ true
 

@@ -5,6 +5,8 @@ use Rattle.session_book.specs.Books.{Kept, AreRising, tunnel_at, calls_of}
 use Rattle.end_names.specs.declared.role.Role.{Role}
 use Rattle.end_model.specs.declared.tunnel.Config.{Config}
 use Rattle.end_model.specs.declared.event.Event.{Event}
+use Rattle.end_model.specs.declared.moves.Move.{Move}
+use Rattle.end_model.specs.declared.moves.Move.TheVariants as move
 use Rattle.end_model.specs.Starting.{bare_end, starts}
 use Rattle.step_laws.specs.Steps.{IsChain}
 use Rattle.step_laws.specs.Looks.{LooksAreTrue}
@@ -49,6 +51,24 @@ pub record IsSoundBook (k : Kept) : Type 0 where
 abbrev pub StartsAreChains : Type 0
 StartsAreChains =
     (r : Role) (c : Config) (k : Kept) → IsSoundBook k → (moment : ℕ) (block : List ℕ) (ev : Event) → IsChain (bare_end r c k) moment ev (starts r c k moment block)
+
+-- a move of a call's link, as it is opened: it is called, a data message is counted, or a frame goes
+abbrev pub IsOfLink : Move → Type 0
+IsOfLink (move.Negotiated m) = Unit {0}
+IsOfLink (move.Counted m) = Unit {0}
+IsOfLink (move.FrameSent m) = Unit {0}
+IsOfLink m = ⊥
+
+-- a move of a start: a tunnel of the book comes back, with the calls that the book has of it; a tunnel is forgotten; or it is of a link
+abbrev pub IsOfStart : Kept → Move → Type 0
+IsOfStart k (move.Restored m) = Among m.tunnel k.tunnels × (m.calls ≡ calls_of m.tunnel.local k.calls)
+IsOfStart k (move.Forgot m) = Unit {0}
+IsOfStart k m = IsOfLink m
+
+abbrev pub StartsAreOfBooks : Type 0
+StartsAreOfBooks =
+    (r : Role) (c : Config) (k : Kept) → IsSoundBook k → (moment : ℕ) (block : List ℕ)
+    → AllByRecursion (IsOfStart k) (starts r c k moment block).moves
 
 -- what the data plane sees of each session is so then
 abbrev pub StartsLookTrue : Type 0

@@ -10,7 +10,7 @@ ghost use Rattle.step_laws.specs.Looks.{LooksBeginTrue, LooksStayTrue};
 ghost use Rattle.step_laws.specs.Rings.{RingsCome};
 ghost use Rattle.step_laws.specs.Room.{StepsRefuseTruly, FullAreRefused};
 ghost use Rattle.step_laws.specs.Sent.{FramesAreOfSteps};
-ghost use Rattle.step_laws.specs.Starts.{StartsAreAllowed, StartsAreChains, StartsLookTrue, StartsTellForgotten};
+ghost use Rattle.step_laws.specs.Starts.{StartsAreAllowed, StartsAreChains, StartsAreOfBooks, StartsLookTrue, StartsTellForgotten};
 ghost use Rattle.step_laws.specs.Steps.{StepsAreChains, StepsAreNoStarts};
 ghost use Rattle.step_laws.specs.Tables.{TablesAreDone};
 ghost use Rattle.step_laws.specs.Ups.{BirthsAreFew, ReadsAreFew, UpsAreFew, UpsAreMoves};
@@ -30,6 +30,12 @@ pub fn steps_are_chains()
 /// then are kept.
 pub fn starts_are_chains()
     ensures { StartsAreChains }
+{}
+
+/// By each of its moves a tunnel of the book comes back, with the calls that the book has of it, or one is forgotten; or it is of the link of a
+/// call, as that is opened.
+pub fn starts_are_of_books()
+    ensures { StartsAreOfBooks }
 {}
 
 /// After a start over such a book, what the data plane sees of each session is so of its call.
