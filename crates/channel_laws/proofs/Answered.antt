@@ -109,7 +109,7 @@ module _ (w : World) (h : History) (answers : ℕ → ℕ → Option Froze) (kep
   booked_more n b ok = record { made = ok.made; peer = ok.peer; remote = ok.remote; knows = ok.knows; learned = ok.learned; late = ok.late }
 
   pub book_more : (n : ℕ) (k : Kept) → BookOk h n k → BookOk more n k
-  book_more n k ok = record { tunnels = λ i b is. booked_more n b (ok.tunnels i b is); apart = ok.apart }
+  book_more n k ok = record { tunnels = λ i b is. booked_more n b (ok.tunnels i b is); apart = ok.apart; calls = ok.calls }
 
   pub attempt_more : (n a : ℕ) (m : Restored) → AttemptOk h n a m → AttemptOk more n a m
   attempt_more n a m ok = record { own = ok.own; some = ok.some; fits = ok.fits; draw_fits = ok.draw_fits; booked = booked_more n m.tunnel ok.booked }

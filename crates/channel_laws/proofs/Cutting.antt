@@ -16,7 +16,6 @@ use Rattle.step_laws.specs.Arrivals.{Came, CameIn}
 use Rattle.step_laws.specs.Letters.{Letter}
 use Rattle.frame_laws.specs.Codecs.{Codecs}
 use Rattle.connection_laws.specs.Facts.{IsNoOpening, AllWait}
-use Rattle.connection_laws.proofs.Alike.{read_same}
 use Rattle.connection_laws.proofs.Hearing.{no_message, first_only}
 use Rattle.channel_laws.specs.Accounts.{Part, Unmade, Opener, Acceptor, Renewed, Account, History}
 use Rattle.channel_laws.specs.Facts.{IsMade, partner_in, IsOpen, IsShut, IsInState, IsRenewed, ChannelOk, LiveOk, Holds}

@@ -1,11 +1,10 @@
 -- A step of a node, all of which was committed: what its moves lead to, and what it sends.
 use Rattle.std.proofs.Common.{◌⊎◌, ◌≡◌, inl, inr, ⊎_elim, ℕ, ◌+◌, ◌^◌, ◌<◌, ◌≤◌, Bool, true, false, List, [], ◌∷◌, ◌++◌, map, refl, sym, ap, ◌∙◌, subst, Option, Some, None, arith, append-nil, append_assoc, ap₂, Ok, take}
 use Rattle.std.proofs.lemmas.Bool.{true≢false, eqb-true}
-use Rattle.std.specs.Prelude.{is_some, if◌then◌else◌, ◌==◌, ◌&&◌, unwrap_or}
+use Rattle.std.specs.Prelude.{is_some, if◌then◌else◌, ◌==◌, ◌&&◌}
 use Rattle.std.specs.List.{AllByRecursion}
 use Rattle.id_source.specs.Spaces.{draw_is}
-use Rattle.session_book.specs.declared.record.Record.TheVariants.{CallDown}
-use Rattle.id_table.specs.Ids.{at, put, ids_of, at-none}
+use Rattle.id_table.specs.Ids.{at}
 use Rattle.id_table.specs.Order.{Ascends, at_new, at_other, same_or_not}
 use Rattle.recv_window.specs.Window.{ClassIsTrue}
 use Rattle.session_book.specs.Books.{tunnel_at, Kept}
@@ -24,14 +23,14 @@ use Rattle.end_model.specs.declared.moves.Move.TheVariants as move
 use Rattle.end_model.specs.declared.out.Out.{Out}
 use Rattle.end_model.specs.declared.out.Out.TheVariants.{Send, Up, Gone, Drop, Cause}
 use Rattle.end_model.specs.declared.out.Origin.{Origin}
-use Rattle.end_model.specs.Contents.{call_down, tunnel_down, mark_by, records_of, contents_of}
+use Rattle.end_model.specs.Contents.{records_of, contents_of}
 use Rattle.end_model.specs.Moments.{is_open}
 use Rattle.end_model.specs.Secrets.{uncovered_event}
 use Rattle.end_model.specs.Tunnels.{Tunnel, mode_of, is_current}
 use Rattle.end_model.specs.End.{End, Stepped, plain_step}
 use Rattle.world_model.specs.declared.packet.Packet.{Packet}
 use Rattle.world_model.specs.declared.standing.Standing.{Standing}
-use Rattle.world_model.specs.World.{World, Node, Checkpoint, Sender, Deed, IsWhole, epoch_of, with_node, block_of, commits, deed_of, moved_all, epoch_sent, packet_from, shown, shown_all, no_standing, IsCut, fallen, without_held, cut_line}
+use Rattle.world_model.specs.World.{World, Node, Checkpoint, Sender, Deed, IsWhole, epoch_of, with_node, block_of, commits, deed_of, moved_all, epoch_sent, packet_from, shown_all, IsCut, cut_line}
 use Rattle.step_laws.specs.Arrivals.{Came, ComesTo, IsAgain, IsStop}
 use Rattle.step_laws.specs.Letters.{Among, Carries}
 use Rattle.step_laws.specs.Moves.{Does, Chain}
@@ -40,15 +39,15 @@ use Rattle.step_laws.specs.Ups.{ReadsAreFew}
 use Rattle.frame_laws.specs.Codecs.{Codecs}
 use Rattle.frame_laws.proofs.Chains.{moved_more}
 use Rattle.frame_laws.proofs.Deeds.{all_behind}
-use Rattle.book_laws.proofs.Lists.{and_left, and_right, all_found, entry_found}
+use Rattle.book_laws.proofs.Lists.{and_left, and_right, all_to}
 use Rattle.book_laws.specs.Books.{booked_control, tunnel_record, IsBook, Fits, StepIsBooked, StepsAreBooked, book_after}
 use Rattle.node_laws.specs.Nodes.{HoldsUp}
-use Rattle.std.proofs.lemmas.Option.{none-some}
-use Rattle.session_book.specs.declared.record.BookTunnel.{BookTunnel}
-use Rattle.connection_laws.proofs.Hearing.{same_address}
-use Rattle.channel_laws.proofs.Resting.{Rests, after_loss, put_holds, same_holds}
+use Rattle.call_fsm.specs.declared.table.CallEvent.TheVariants as call_event
+use Rattle.end_model.specs.declared.tunnel.Call.{Call}
+use Rattle.end_model.specs.declared.moves.FirstUp.{FirstUp}
+use Rattle.end_model.specs.declared.moves.SecondUp.{SecondUp}
 use Rattle.channel_laws.specs.Accounts.{Part, Unmade, Opener, Acceptor, Renewed, History, after, history_from, Account, about, entered_by}
-use Rattle.channel_laws.specs.Facts.{IsMade, EndOk, BookOk, NodeOk, PacketOk, Holds, partner_in, ByLetter, ByRecord, BookedOk, LiveOk, KnowsBy}
+use Rattle.channel_laws.specs.Facts.{IsMade, EndOk, BookOk, NodeOk, PacketOk, Holds, partner_in, ByLetter, ByRecord, BookedOk, LiveOk}
 use Rattle.channel_laws.specs.Lines.{AreSame, Finds, ComesIn}
 use Rattle.channel_laws.specs.Recoveries.{WrittenIsRead, WrittenHasRoom}
 use Rattle.channel_laws.specs.Steps.{Comes, Keeps}
@@ -60,20 +59,22 @@ use Rattle.channel_laws.proofs.Coming.{FromTunnel}
 use Rattle.channel_laws.proofs.Committing.{whole_book, cut_book, front_in_place}
 use Rattle.channel_laws.proofs.Cutting.{IsFrom, is_from, replies, sent_by, early_state, waits_accepted, knows_remote}
 use Rattle.channel_laws.proofs.Earlier.{PartOf, SamePart, FirstPart, RenewedPart, part_of, part_after, made_along, attempts_along, answers_along}
-use Rattle.channel_laws.proofs.Linked.{renewed_of, part_cases, opener_of}
+use Rattle.channel_laws.proofs.Linked.{renewed_of}
 use Rattle.channel_laws.proofs.Main.{used_once}
 use Rattle.channel_laws.proofs.Naming.{reply_answers}
 use Rattle.channel_laws.proofs.Nearness.{confirmation_none}
 use Rattle.channel_laws.proofs.Numbering.{IsActive, IsFirst, Counted, Stays, Takes, Reads, Begins, Resets, does_count}
-use Rattle.channel_laws.proofs.Records.{Brings, all_after, contents_bring, ceilings_rise, booked_like}
+use Rattle.channel_laws.proofs.Records.{Brings, BringsCall, none_brings, none_brings_call, none_up, contents_so, ceilings_rise}
+use Rattle.channel_laws.proofs.CutOff.{FitsCall, book_behind, cut_off}
+use Rattle.channel_laws.proofs.Giving.{advanced_remote}
 use Rattle.channel_laws.proofs.Inactive.{IsInactive}
 use Rattle.channel_laws.proofs.Looks.{SameLook, CountAlike, same_look, look_back, look_on, all_look, looks_so, count_alike, end_agrees, node_agrees, packets_agree, holds_agrees}
-use Rattle.channel_laws.proofs.Mailing.{with_mail, mail_alike, all_joined}
+use Rattle.channel_laws.proofs.Mailing.{with_mail, mail_alike}
 use Rattle.channel_laws.proofs.OfEnds.{book_ok}
 use Rattle.channel_laws.proofs.Refusing.{declined_for, decline_sent}
 use Rattle.channel_laws.proofs.Sending.{FramesFit, carries_ok}
 use Rattle.channel_laws.proofs.Stepping.{chain_both, reads_in, fits_there, Amid, Led, leads}
-use Rattle.channel_laws.proofs.MoveLists.{IsSplit, split, deeds_more, deed_last, sent_is, reads_once, same_agree}
+use Rattle.channel_laws.proofs.MoveLists.{IsSplit, split, deeds_more, deed_last, OutOk, IsShown, shows, reads_once, same_agree}
 
 -- the laws of steps that are used
 pub record StepLaws : Type 0 where
@@ -83,33 +84,6 @@ pub record StepLaws : Type 0 where
   pub booked : StepsAreBooked
   pub again : WrittenIsRead
   pub has_room : WrittenHasRoom
-
--- two tunnels of a node that books have, and that have the same other end, are one
-module _ (w : World) (h : History) (holds : Holds w h) (n : ℕ) where
-  booked_back : (b : BookTunnel) → BookedOk h n b → (h.accounts (h.accounts n b.local 0).peer b.remote 0).remote ≡ b.local
-  booked_back b ok = by ok.knows
-    where
-      a : Account
-      a = h.accounts n b.local 0
-
-      by : KnowsBy h.accounts n b.local b.remote → (h.accounts (h.accounts n b.local 0).peer b.remote 0).remote ≡ b.local
-      by (ByLetter same) =
-          let some = ok.remote in
-          subst (λ r. (h.accounts (h.accounts n b.local 0).peer r 0).remote ≡ b.local) same
-          (⊎_elim
-          (λ (own : (h.accounts n b.local 0).part ≡ Opener).
-          (opener_of w h n b.local 0 (h.accounts n b.local 0) (holds.accounts n b.local 0) own).1.remote (λ z. (let no : ⊥ = omega (arith, z, same, some) in no)))
-          (λ k. ⊎_elim
-          (λ (own : (h.accounts n b.local 0).part ≡ Acceptor). ok.learned own)
-          (λ (own : (h.accounts n b.local 0).part ≡ Renewed). let lt = (renewed_of w h n b.local 0 (h.accounts n b.local 0) (holds.accounts n b.local 0) own).later in absurd (omega (arith, lt)))
-          k)
-          (part_cases (h.accounts n b.local 0).part ok.made))
-      by (ByRecord part none acceptor peer remote) = remote
-
-  one_of_two : (b c : BookTunnel) → BookedOk h n b → BookedOk h n c → b.peer ≡ c.peer → b.remote ≡ c.remote → b.local ≡ c.local
-  one_of_two b c one two peers remotes =
-      let nodes : (h.accounts n b.local 0).peer ≡ (h.accounts n c.local 0).peer = same_address _ _ (sym one.peer ∙ (peers ∙ two.peer)) in
-      sym (booked_back b one) ∙ (ap₂ (λ x y. (h.accounts x y 0).remote) nodes remotes ∙ booked_back c two)
 
 -- a tunnel isn't established, and neither frozen nor restored
 record WasEarly (x : End) (i : ℕ) : Type 0 where
@@ -484,39 +458,51 @@ module _ (laws : StepLaws) (any : (m : Move) → IsOfNoStart m → Keeps m) (cod
         late = λ closed. (let two = sym fresh.0 ∙ closed in cc);
       }
 
-  calls_bring : (b : Bool) (q : ℕ) → AllByRecursion (Brings (BookedOk h n)) (call_down b q)
-  calls_bring true q = (tt, tt)
-  calls_bring false q = tt
-
-  tunnels_bring : (b : Bool) (q : ℕ) → AllByRecursion (Brings (BookedOk h n)) (tunnel_down b q)
-  tunnels_bring true q = (tt, tt)
-  tunnels_bring false q = tt
-
-  marks_bring : (b : Bool) (q mark : ℕ) → AllByRecursion (Brings (BookedOk h n)) (mark_by b q mark)
-  marks_bring true q mark = (tt, tt)
-  marks_bring false q mark = tt
-
-  ends_bring : (ss : List ℕ) → AllByRecursion (Brings (BookedOk h n)) (map (λ q. CallDown q) ss)
-  ends_bring [] = tt
-  ends_bring (q ∷ ss) = (tt, ends_bring ss)
-
   pub moves_bring : (m : Move) → Among m s.moves → AllByRecursion (Brings (BookedOk h n)) (records_of m)
   unfolding records_of
   moves_bring (move.Connected c) among = (connected_booked c among, tt)
   moves_bring (move.Confirmed c) among = (confirmed_booked c among, tt)
-  moves_bring (move.FirstUp m) among = (tt, tt)
-  moves_bring (move.SecondUp m) among = (tt, tt)
-  moves_bring (move.EndTold m) among = calls_bring m.booked m.session
-  moves_bring (move.EndHeard m) among = calls_bring m.booked m.session
-  moves_bring (move.EndSilent m) among = calls_bring m.booked m.session
-  moves_bring (move.Closed m) among = tunnels_bring m.booked m.tunnel
-  moves_bring (move.ClosedBy m) among = tunnels_bring m.booked m.tunnel
-  moves_bring (move.Cleared i booked) among = tunnels_bring booked i
-  moves_bring (move.Forgot m) among = (tt, tt)
-  moves_bring (move.Froze m) among = marks_bring m.marked m.tunnel m.asked
-  moves_bring (move.ResetAttempting m) among = marks_bring m.marked m.tunnel m.draw
-  moves_bring (move.TookAnswer m) among = ends_bring m.ended
-  moves_bring m among = tt
+  moves_bring (move.FirstUp c) among = (tt, tt)
+  moves_bring (move.SecondUp c) among = (tt, tt)
+  moves_bring m among = none_up (Brings (BookedOk h n)) (none_brings (BookedOk h n)) m tt
+
+  -- a call that comes up: the other end's id of it has 16 bits
+  module _ (mv : Move) (among : Among mv s.moves) where
+    abbrev su : IsSplit moment read e0 s.end mv s.moves
+    su = split moment read e0 s.end mv s.moves among is_chain.chain
+
+    up_fits : (i q : ℕ) (t : Tunnel) (c : Call) → at su.to.tunnels i ≡ Some t → at t.calls q ≡ Some c → c.remote < 65536
+    up_fits i q t c there is =
+        let made = su.before ++ mv ∷ [] in
+        let led = led_to made su.behind su.to (su.is ∙ sym (append_assoc su.before (mv ∷ []) su.behind))
+        (chain_both moment read e0 su.from su.to su.before (mv ∷ []) su.comes (su.to, su.does, refl)) su.goes in
+        ((end_there made su.to led.world (history_from (map deed_in made) h) led.amid).live i t there).calls q c is
+
+  first_fits : (c : FirstUp) → Among (move.FirstUp c) s.moves → c.remote < 65536
+  first_fits c among =
+      let d = (su (move.FirstUp c) among).does in
+      let old_call = record d.call { remote = c.remote } in
+      let lt = up_fits (move.FirstUp c) among c.tunnel c.session _ _ (ap (λ (q : End). at q.tunnels c.tunnel) d.after
+      ∙ at_new _ c.tunnel _) (at_new d.tunnel.calls c.session _) in
+      let same = advanced_remote (su (move.FirstUp c) among).from.role call_event.IcrpAcc moment old_call in
+      omega (arith, lt, same)
+
+  second_fits : (c : SecondUp) → Among (move.SecondUp c) s.moves → c.remote < 65536
+  second_fits c among =
+      let d = (su (move.SecondUp c) among).does in
+      let lt = up_fits (move.SecondUp c) among c.tunnel c.session _ _ (ap (λ (q : End). at q.tunnels c.tunnel) d.after
+      ∙ at_new _ c.tunnel _) (at_new d.tunnel.calls c.session _) in
+      let same = advanced_remote (su (move.SecondUp c) among).from.role call_event.IccnAcc moment d.call in
+      let is = d.remote in
+      omega (arith, lt, same, is)
+
+  calls_bring : (m : Move) → Among m s.moves → AllByRecursion (BringsCall FitsCall) (records_of m)
+  unfolding records_of
+  calls_bring (move.Connected c) among = (tt, tt)
+  calls_bring (move.Confirmed c) among = (tt, tt)
+  calls_bring (move.FirstUp c) among = (first_fits c among, tt)
+  calls_bring (move.SecondUp c) among = (second_fits c among, tt)
+  calls_bring m among = none_up (BringsCall FitsCall) (none_brings_call FitsCall) m tt
 
   -- ---- where a stop cuts it off
 
@@ -527,29 +513,18 @@ module _ (laws : StepLaws) (any : (m : Move) → IsOfNoStart m → Keeps m) (cod
     booked_before : BookOk h n c0.book
     booked_before = subst (λ (c : Checkpoint). BookOk h n c.book) (sym finds.checkpoint) both_ok.1
 
-    all_cut : AllByRecursion (BookedOk h n) kc.book.tunnels
-    all_cut =
-        subst (λ (b : Kept). AllByRecursion (BookedOk h n) b.tunnels) (sym some_records.1)
-        (all_after (BookedOk h n) (λ a b local peer remote ok. booked_like h n a b local peer remote ok) c0.book (take some_records.0 (contents_of e0 s))
-        (all_found (λ (b : BookTunnel). b.local) (BookedOk h n) c0.book.tunnels book0.mirrors.tunnels_rise (λ i b there. booked_before.tunnels i b there))
-        (contents_bring (BookedOk h n) (λ a b local peer remote ok. booked_like h n a b local peer remote ok) some_records.0 e0 s moves_bring))
-
     book_cut : BookOk h n kc.book
-    book_cut = record {
-      tunnels = λ i b there. (entry_found (λ (t : BookTunnel). t.local) (BookedOk h n) i kc.book.tunnels b all_cut there).1;
-      apart = λ i j b c there too peers remotes.
-          (let one = entry_found (λ (t : BookTunnel). t.local) (BookedOk h n) i kc.book.tunnels b all_cut there in
-          let two = entry_found (λ (t : BookTunnel). t.local) (BookedOk h n) j kc.book.tunnels c all_cut too in
-          sym one.0 ∙ (one_of_two w h holds n b c one.1 two.1 peers remotes ∙ two.0));
-    }
+    book_cut =
+        subst (BookOk h n) (sym some_records.1)
+        (book_behind w h holds n c0.book book0.mirrors.tunnels_rise book0.mirrors.calls_rise booked_before
+        (take some_records.0 (contents_of e0 s))
+        (contents_so (Brings (BookedOk h n)) (none_brings (BookedOk h n)) some_records.0 e0 s moves_bring)
+        (contents_so (BringsCall FitsCall) (none_brings_call FitsCall) some_records.0 e0 s calls_bring))
 
     ceiling_cut : c0.book.tunnel_ceiling ≤ kc.book.tunnel_ceiling
     ceiling_cut =
         subst (λ (b : Kept). c0.book.tunnel_ceiling ≤ b.tunnel_ceiling) (sym some_records.1)
         (ceilings_rise c0.book (take some_records.0 (contents_of e0 s)) (front_in_place some_records.0 c0.book (contents_of e0 s) booked.in_place))
-
-    abbrev pub cut_node : Node
-    cut_node = fallen (block_of n number) e0 found kc
 
     gone_unmade : (i : ℕ) → (h.accounts n i 0).part ≡ Unmade → at e0.tunnels i ≡ None
     gone_unmade i unmade = by (at e0.tunnels i) refl
@@ -557,15 +532,6 @@ module _ (laws : StepLaws) (any : (m : Move) → IsOfNoStart m → Keeps m) (cod
         by : (o : Option Tunnel) → at e0.tunnels i ≡ o → o ≡ None
         by None is = refl
         by (Some t) is = absurd ((both_ok.0.live i t (subst (λ (q : End). at q.tunnels i ≡ Some t) finds.end is)).made unmade)
-
-    cut_rests : Rests h n old cut_node
-    unfolding fallen
-    cut_rests = record {
-      answers = finds.answers;
-      epochs = λ i. (after_loss e0 i (ids_of e0.tunnels) found.standings).0 ∙ ap (λ xs. (unwrap_or (at xs i) no_standing).epoch) finds.standings;
-      made = λ i. (after_loss e0 i (ids_of e0.tunnels) found.standings).1.0 ∙ ap (λ xs. (unwrap_or (at xs i) no_standing).made) finds.standings;
-      none = λ i unmade none. (after_loss e0 i (ids_of e0.tunnels) found.standings).1.1 (gone_unmade i unmade) ∙ (ap (λ xs. unwrap_or (at xs i) no_standing) finds.standings ∙ none);
-    }
 
     above_cut : (i : ℕ) → i < old.end.tunnel_ids.next → i < kc.book.tunnel_ceiling + 1
     above_cut i lt =
@@ -575,35 +541,8 @@ module _ (laws : StepLaws) (any : (m : Move) → IsOfNoStart m → Keeps m) (cod
         let rises = ceiling_cut in
         omega (arith, lt, drawn, alike, kept, rises)
 
-    cut_ok : NodeOk (with_node w n cut_node) h n (Some cut_node)
-    unfolding fallen
-    cut_ok =
-        let e = both_ok.0 in
-        let ids = e.ids in
-        let alike = finds.end in (
-          record {
-            node = e.node;
-            number = ap (λ (q : End). q.config.number) alike ∙ e.number;
-            lns = λ lac. (let l = e.lns (ap (λ (q : End). q.role) (sym alike) ∙ lac) in (l.0, l.1, ap (λ (q : End). q.config.lns) alike ∙ l.2));
-            ids = record {
-              tunnels = λ i made. above_cut i (ids.tunnels i made);
-              attempts = λ a is. above_cut a (ids.attempts a is);
-              answers = λ c is. above_cut c (ids.answers c is);
-              no_attempt = ids.no_attempt;
-              no_answer = ids.no_answer;
-              one = ids.one;
-            };
-            live = λ i t there. absurd (none-some t (sym (at-none i) ∙ there));
-            apart = λ i j t u there too. absurd (none-some t (sym (at-none i) ∙ there));
-          },
-          book_cut,
-        )
-
     pub cut_holds : Holds (cut_line base number n found kc).world h
-    unfolding cut_line
-    cut_holds =
-        let v = with_node w n cut_node in
-        same_holds v (without_held (with_node base n cut_node) n) h (put_holds w h n old cut_node was holds cut_rests cut_ok) (ap (λ ns. put ns n cut_node) same.nodes) same.packets
+    cut_holds = cut_off w h holds number n old was found finds base same kc gone_unmade above_cut book_cut
 
   -- ---- the world in which they are told
 
@@ -735,14 +674,7 @@ module _ (laws : StepLaws) (any : (m : Move) → IsOfNoStart m → Keeps m) (cod
         (subst (λ q. PacketOk led2.world q (packet_from n (node_of peer) bytes o 0)) (sym last)
         (decline_sent led2.world g (deed_in mv) n m lt refl for peer bytes o dec.peer_is dec.bytes_are dec.origin_is)))
 
-    abbrev OutOk : Out → Type 0
-    OutOk (Send peer bytes o) = PacketOk w1 h1 (packet_from n (node_of peer) bytes o (epoch_sent w1 n o))
-    OutOk (Up session side frame) = Unit {0}
-    OutOk (Gone session) = Unit {0}
-    OutOk (Drop x) = Unit {0}
-    OutOk (Cause x) = Unit {0}
-
-    out_ok : (o : Out) → IsOfMoves moment read e0 s.moves s.end o → OutOk o
+    out_ok : (o : Out) → IsOfMoves moment read e0 s.moves s.end o → OutOk n w1 (PacketOk w1 h1) o
     out_ok (Send peer bytes o) (inl k1) = amid_sent k1.amid.made k1.amid.rest k1.amid.end k1.amid.moves_are k1.amid.comes k1.amid.goes peer bytes o k1.id k1.tunnel k1.there k1.peer_is k1.carries
     out_ok (Send peer bytes o) (inr k1) = decline_ok peer bytes o k1
     out_ok (Up session side frame) k1 = tt
@@ -750,25 +682,10 @@ module _ (laws : StepLaws) (any : (m : Move) → IsOfNoStart m → Keeps m) (cod
     out_ok (Drop x) k1 = tt
     out_ok (Cause x) k1 = tt
 
-    record IsShown (u : World) : Type 0 where
-      mail : List Packet
-      is : u ≡ with_mail w1 mail
-      all : AllByRecursion (PacketOk w1 h1) mail
-
-    shows : (os : List Out) (ps : List Packet) → AllByRecursion (IsOfMoves moment read e0 s.moves s.end) os → AllByRecursion (PacketOk w1 h1) ps → IsShown (shown_all n os (with_mail w1 ps))
-    unfolding shown_all shown
-    shows [] ps of ok = record { mail = ps; is = refl; all = ok }
-    shows (Send peer bytes o ∷ os) ps of ok =
-        let p = packet_from n (node_of peer) bytes o (epoch_sent w1 n o) in
-        subst (λ u. IsShown (shown_all n os u)) (sym (sent_is w1 ps n (node_of peer) bytes o))
-        (shows os (ps ++ p ∷ []) of.1 (all_joined (PacketOk w1 h1) ps p ok (out_ok (Send peer bytes o) of.0)))
-    shows (Up session side frame ∷ os) ps of ok = shows os ps of.1 ok
-    shows (Gone session ∷ os) ps of ok = shows os ps of.1 ok
-    shows (Drop x ∷ os) ps of ok = shows os ps of.1 ok
-    shows (Cause x ∷ os) ps of ok = shows os ps of.1 ok
-
-    all_shown : IsShown (shown_all n s.outputs w1)
-    all_shown = shows s.outputs w1.packets is_chain.outputs holds1.packets
+    all_shown : IsShown n w1 (PacketOk w1 h1) (shown_all n s.outputs w1)
+    all_shown =
+        shows n w1 (PacketOk w1 h1) s.outputs w1.packets
+        (all_to (IsOfMoves moment read e0 s.moves s.end) (OutOk n w1 (PacketOk w1 h1)) out_ok s.outputs is_chain.outputs) holds1.packets
 
     abbrev pub w2 : World
     w2 = shown_all n s.outputs w1

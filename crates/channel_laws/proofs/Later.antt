@@ -212,13 +212,19 @@ module _ (w v : World) (h k : History) (n i e : ℕ) (only : IsOnly h k n i e) (
         (λ o. settled_other n b.local (λ q. o q.1))
         (same_or_not b.local i)) (ok.tunnels j b is);
     apart = ok.apart;
+    calls = ok.calls;
   }
     where
       ok_local : (j : ℕ) (b : BookTunnel) → tunnel_at node.checkpoint.book j ≡ Some b → b.local ≡ j
       ok_local j b is = entry_has (λ (t : BookTunnel). t.local) j node.checkpoint.book.tunnels b is
 
   book_other : (m : ℕ) → (m ≡ n → ⊥) → (q : Kept) → BookOk h m q → BookOk k m q
-  book_other m o q ok = record { tunnels = λ j b is. booked_later m b (settled_other m b.local (λ z. o z.0)) (ok.tunnels j b is); apart = ok.apart }
+  book_other m o q ok = record {
+    tunnels = λ j b is. booked_later m b (settled_other m b.local (λ z. o z.0))
+        (ok.tunnels j b is);
+    apart = ok.apart;
+    calls = ok.calls;
+  }
 
   -- ---- answers
 

@@ -75,6 +75,9 @@ mod Records
 mod Earlier
 mod Cutting
 mod MoveLists
+mod Partners
+mod CutOff
 mod Ending
+mod Attempting
 mod Wholly
 mod EachLine

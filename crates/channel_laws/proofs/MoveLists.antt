@@ -1,22 +1,26 @@
 -- The moves of a step as lists, and what goes out between them.
-use Rattle.std.proofs.Common.{◌≡◌, inl, inr, ℕ, ◌≤◌, List, [], ◌∷◌, ◌++◌, map, refl, ap, subst, arith}
+use Rattle.std.proofs.Common.{◌≡◌, inl, inr, ℕ, ◌≤◌, List, [], ◌∷◌, ◌++◌, map, refl, sym, ap, subst, arith}
 use Rattle.std.specs.Prelude.{is_some}
+use Rattle.std.specs.List.{AllByRecursion}
 use Rattle.id_table.specs.Ids.{at}
 use Rattle.end_model.specs.declared.event.Event.{Event}
 use Rattle.end_model.specs.declared.event.Event.TheVariants.{Datagram}
 use Rattle.end_model.specs.declared.moves.Move.{Move}
+use Rattle.end_names.specs.Names.{node_of}
+use Rattle.end_model.specs.declared.out.Out.{Out}
+use Rattle.end_model.specs.declared.out.Out.TheVariants.{Send, Up, Gone, Drop, Cause}
 use Rattle.end_model.specs.declared.out.Origin.{Origin}
 use Rattle.end_model.specs.declared.out.Origin.TheVariants as origin
 use Rattle.end_model.specs.End.{End}
 use Rattle.world_model.specs.declared.packet.Packet.{Packet}
-use Rattle.world_model.specs.World.{World, Deed, standing_of, answer_in, epoch_sent, packet_from, sent}
+use Rattle.world_model.specs.World.{World, Deed, standing_of, answer_in, epoch_sent, packet_from, sent, shown, shown_all}
 use Rattle.step_laws.specs.Letters.{Among}
 use Rattle.step_laws.specs.Moves.{Does, Chain}
 use Rattle.step_laws.specs.Ups.{most_reads}
 use Rattle.channel_laws.specs.Accounts.{History, after, history_from}
 use Rattle.channel_laws.specs.Lines.{AreSame}
 use Rattle.channel_laws.proofs.Agreeing.{Agree}
-use Rattle.channel_laws.proofs.Mailing.{with_mail}
+use Rattle.channel_laws.proofs.Mailing.{with_mail, all_joined}
 
 -- ---- lists of moves
 
@@ -74,6 +78,32 @@ unfolding sent standing_of
 sent_is w ps n q bytes (origin.Control c) = refl
 sent_is w ps n q bytes (origin.Data session) = refl
 sent_is w ps n q bytes (origin.Recovery own number empty) = refl
+
+-- the packets that outputs send, of each of which something is so
+module _ (n : ℕ) (w : World) (P : Packet → Type 0) where
+  abbrev pub OutOk : Out → Type 0
+  OutOk (Send peer bytes o) = P (packet_from n (node_of peer) bytes o (epoch_sent w n o))
+  OutOk (Up session side frame) = Unit {0}
+  OutOk (Gone session) = Unit {0}
+  OutOk (Drop x) = Unit {0}
+  OutOk (Cause x) = Unit {0}
+
+  pub record IsShown (u : World) : Type 0 where
+    pub mail : List Packet
+    pub is : u ≡ with_mail w mail
+    pub all : AllByRecursion P mail
+
+  pub shows : (os : List Out) (ps : List Packet) → AllByRecursion OutOk os → AllByRecursion P ps → IsShown (shown_all n os (with_mail w ps))
+  unfolding shown_all shown
+  shows [] ps of ok = record { mail = ps; is = refl; all = ok }
+  shows (Send peer bytes o ∷ os) ps of ok =
+      let p = packet_from n (node_of peer) bytes o (epoch_sent w n o) in
+      subst (λ u. IsShown (shown_all n os u)) (sym (sent_is w ps n (node_of peer) bytes o))
+      (shows os (ps ++ p ∷ []) of.1 (all_joined P ps p ok of.0))
+  shows (Up session side frame ∷ os) ps of ok = shows os ps of.1 ok
+  shows (Gone session ∷ os) ps of ok = shows os ps of.1 ok
+  shows (Drop x ∷ os) ps of ok = shows os ps of.1 ok
+  shows (Cause x ∷ os) ps of ok = shows os ps of.1 ok
 
 pub reads_once : (ev : Event) → most_reads ev ≤ 1
 reads_once (Datagram peer bytes) = omega arith

@@ -4,13 +4,16 @@ use Rattle.std.proofs.lemmas.Bool.{eqb-true}
 use Rattle.std.specs.Prelude.{if◌then◌else◌}
 use Rattle.id_table.specs.Ids.{at}
 use Rattle.session_book.specs.declared.record.BookTunnel.{BookTunnel}
-use Rattle.session_book.specs.Books.{Kept, tunnel_at}
+use Rattle.session_book.specs.declared.record.BookCall.{BookCall}
+use Rattle.session_book.specs.Books.{Kept, tunnel_at, call_at}
 use Rattle.tunnel_fsm.specs.Rows.{state_number}
+use Rattle.end_model.specs.declared.tunnel.Call.{Call}
+use Rattle.end_model.specs.Calls.{is_up}
 use Rattle.end_model.specs.Moments.{is_open}
 use Rattle.end_model.specs.Tunnels.{Tunnel, mode_of, is_current}
 use Rattle.end_model.specs.End.{End}
 use Rattle.world_model.specs.World.{World, epoch_of}
-use Rattle.book_laws.specs.Books.{booked_control, tunnel_record, Mirrors}
+use Rattle.book_laws.specs.Books.{booked_control, tunnel_record, booked_call, call_record, record_in, Mirrors}
 use Rattle.connection_laws.specs.Facts.{AllWait}
 use Rattle.channel_laws.specs.Accounts.{Part, Unmade, Opener, Acceptor, Renewed, Account, History}
 use Rattle.channel_laws.specs.Facts.{IsOpen, IsShut, IsInState, BookedOk, ChannelOk, LiveOk, EndOk, BookOk, Holds}
@@ -82,6 +85,26 @@ module _ (w : World) (h : History) (holds : Holds w h) (n : ℕ) (e : End) (ok :
         by None none is = absurd cc
         by (Some t) there is = open_so t there (is_open t.control.state) refl is
 
+    -- the other end's id of the call of a record
+    call_fits : (s : ℕ) (b : BookCall) → call_at k s ≡ Some b → b.remote < 65536
+    call_fits s b found = by (at e.tunnels b.tunnel) refl (mirrors.calls s b found)
+      where
+        up_so : (c : Call) → c.remote < 65536 → (q : Bool) → (if q then Some (booked_call b.tunnel s c) else None) ≡ Some b
+            → b.remote < 65536
+        up_so c lt true is = let same : booked_call b.tunnel s c ≡ b = cc in
+            let remote = ap (λ (x : BookCall). x.remote) same in omega (arith, remote, lt)
+        up_so c lt false is = absurd cc
+
+        in_tunnel : (t : Tunnel) → ((q : ℕ) (c : Call) → at t.calls q ≡ Some c → c.remote < 65536) → (o : Option Call) → at t.calls s ≡ o
+            → call_record b.tunnel s o ≡ Some b
+            → b.remote < 65536
+        in_tunnel t fits None none is = absurd cc
+        in_tunnel t fits (Some c) there is = up_so c (fits s c there) (is_up c.state) is
+
+        by : (o : Option Tunnel) → at e.tunnels b.tunnel ≡ o → record_in b.tunnel s o ≡ Some b → b.remote < 65536
+        by None none is = absurd cc
+        by (Some t) there is = in_tunnel t (ok.live b.tunnel t there).calls (at t.calls s) refl is
+
     pub book_ok : BookOk h n k
     book_ok = record {
       tunnels = λ i b found. (let o = of_book i b found in subst (BookedOk h n) o.is (booked_at i o.tunnel (ok.live i o.tunnel o.there) o.three));
@@ -94,4 +117,5 @@ module _ (w : World) (h : History) (holds : Holds w h) (n : ℕ) (e : End) (ok :
           (ap (λ (x : BookTunnel). x.peer) o.is ∙ (peers ∙ ap (λ (x : BookTunnel). x.peer) (sym p.is)))
           (ap (λ (x : BookTunnel). x.remote) o.is ∙ (remotes ∙ ap (λ (x : BookTunnel). x.remote) (sym p.is)))
           (λ z. let no : ⊥ = omega (arith, z, some) in no));
+      calls = call_fits;
     }

@@ -1,16 +1,18 @@
--- What is so of each tunnel of a book stays so behind records, where it is so of each tunnel that a record brings.
+-- What is so of each tunnel of a book, or of each call, stays so behind records, where it is so of each that a record brings.
 use Rattle.std.proofs.Common.{◌≡◌, inl, inr, ℕ, ◌+◌, ◌≤◌, Bool, true, false, zero, suc, List, [], ◌∷◌, ◌++◌, map, take, drop, refl, sym, ap, ◌∙◌, subst, Some, flat_map, arith}
 use Rattle.std.proofs.lemmas.Bool.Decides.{nat_tests}
 use Rattle.std.specs.Prelude.{min, ◌-◌, ◌*◌, ◌/◌, ◌==◌, if◌then◌else◌, nat_lt}
 use Rattle.std.specs.List.{AllByRecursion}
 use Rattle.id_source.specs.Spaces.{Space, counting_from}
 use Rattle.session_book.specs.declared.record.BookTunnel.{BookTunnel}
+use Rattle.session_book.specs.declared.record.BookCall.{BookCall}
 use Rattle.session_book.specs.declared.record.Record.{Record}
 use Rattle.session_book.specs.declared.record.Record.TheVariants.{Ceiling, TunnelUp, TunnelDown, CallUp, CallDown, Mark}
 use Rattle.session_book.specs.Books.{Kept, place, raised, ceiling, fits, marked, stepped as with_record}
 use Rattle.end_names.specs.Names.{address_of}
-use Rattle.end_model.specs.Contents.{ceilings_of, records_of, contents_of}
+use Rattle.end_model.specs.Contents.{ceilings_of, call_down, tunnel_down, mark_by, records_of, contents_of}
 use Rattle.end_model.specs.declared.moves.Move.{Move}
+use Rattle.end_model.specs.declared.moves.Move.TheVariants as move
 use Rattle.end_model.specs.End.{End, Stepped}
 use Rattle.book_laws.specs.Books.{AreInPlace, book_after}
 use Rattle.book_laws.proofs.Lists.{all_filter, and_left}
@@ -78,21 +80,130 @@ module _ (P : BookTunnel → Type 0) (like : (a b : BookTunnel) → b.local ≡ 
   all_after k [] all brings = all
   all_after k (r ∷ rs) all brings = all_after (with_record k r) rs (one_after k r all brings.0) brings.1
 
-  each_brings : (f : ℕ → Record) → ((k : ℕ) → Brings P (f k)) → (ns : List ℕ) → AllByRecursion (Brings P) (map f ns)
-  each_brings f each [] = tt
-  each_brings f each (n ∷ ns) = (each n, each_brings f each ns)
+-- a record brings a call of which it is so, or none
+abbrev pub BringsCall : (BookCall → Type 0) → Record → Type 0
+BringsCall P (Ceiling space number) = Unit {0}
+BringsCall P (TunnelUp t) = Unit {0}
+BringsCall P (TunnelDown id) = Unit {0}
+BringsCall P (CallUp c) = P c
+BringsCall P (CallDown id) = Unit {0}
+BringsCall P (Mark id mark) = Unit {0}
 
-  ceilings_bring : (space : ℕ) (x y : Space) → AllByRecursion (Brings P) (ceilings_of space x y)
-  ceilings_bring space x y = each_brings (λ k. Ceiling space (min x.last (x.ceiling + 64 * k))) (λ k. tt) (counting_from 1 ((y.ceiling - x.ceiling + 63) / 64))
+raised_calls : (space number : ℕ) (k : Kept) → (raised space number k).calls ≡ k.calls
+raised_calls space number k = by (space == 1) (space == 2) (space == 3)
+  where
+    by : (a b c : Bool)
+        → (if a then record k { tunnel_ceiling = number } else if b then record k { session_ceiling = number } else if c then record k { draw_ceiling = number } else k).calls ≡ k.calls
+    by true b c = refl
+    by false true c = refl
+    by false false true = refl
+    by false false false = refl
 
-  -- what a step leaves brings what its moves bring, up to a stop
-  pub contents_bring : (n : ℕ) (e : End) (s : Stepped) → ((m : Move) → Among m s.moves → AllByRecursion (Brings P) (records_of m)) → AllByRecursion (Brings P) (take n (contents_of e s))
+module _ (P : BookCall → Type 0) where
+  call_after : (k : Kept) (r : Record) → AllByRecursion P k.calls → BringsCall P r → AllByRecursion P (with_record k r).calls
+  call_after k (Ceiling space number) all brings = subst (AllByRecursion P) (sym (raised_calls space number k)) all
+  call_after k (TunnelUp t) all brings = all
+  call_after k (TunnelDown id) all brings = all_filter P _ k.calls all
+  call_after k (CallUp c) all brings =
+      let i = place (λ (x : BookCall). x.local) c.local k.calls in
+      all_append P (take i k.calls) (c ∷ drop i k.calls) (all_take P i k.calls all) (brings, all_drop P i k.calls all)
+  call_after k (CallDown id) all brings = all_filter P _ k.calls all
+  call_after k (Mark id mark) all brings = all
+
+  pub calls_after : (k : Kept) (rs : List Record) → AllByRecursion P k.calls → AllByRecursion (BringsCall P) rs
+      → AllByRecursion P (book_after k rs).calls
+  calls_after k [] all brings = all
+  calls_after k (r ∷ rs) all brings = calls_after (with_record k r) rs (call_after k r all brings.0) brings.1
+
+-- ---- the records of a step
+
+-- what is so of each record that isn't a tunnel's or a call's coming up
+abbrev pub IsNoUp : Record → Type 0
+IsNoUp (Ceiling space number) = Unit {0}
+IsNoUp (TunnelUp t) = ⊥
+IsNoUp (TunnelDown id) = Unit {0}
+IsNoUp (CallUp c) = ⊥
+IsNoUp (CallDown id) = Unit {0}
+IsNoUp (Mark id mark) = Unit {0}
+
+pub none_brings : (P : BookTunnel → Type 0) (r : Record) → IsNoUp r → Brings P r
+none_brings P (Ceiling space number) none = tt
+none_brings P (TunnelUp t) none = absurd none
+none_brings P (TunnelDown id) none = tt
+none_brings P (CallUp c) none = absurd none
+none_brings P (CallDown id) none = tt
+none_brings P (Mark id mark) none = tt
+
+pub none_brings_call : (P : BookCall → Type 0) (r : Record) → IsNoUp r → BringsCall P r
+none_brings_call P (Ceiling space number) none = tt
+none_brings_call P (TunnelUp t) none = absurd none
+none_brings_call P (TunnelDown id) none = tt
+none_brings_call P (CallUp c) none = absurd none
+none_brings_call P (CallDown id) none = tt
+none_brings_call P (Mark id mark) none = tt
+
+-- a move by which nothing comes up
+abbrev pub BringsNone : Move → Type 0
+BringsNone (move.Connected m) = ⊥
+BringsNone (move.Confirmed m) = ⊥
+BringsNone (move.FirstUp m) = ⊥
+BringsNone (move.SecondUp m) = ⊥
+BringsNone m = Unit {0}
+
+module _ (Q : Record → Type 0) (other : (r : Record) → IsNoUp r → Q r) where
+  calls_down : (b : Bool) (q : ℕ) → AllByRecursion Q (call_down b q)
+  calls_down true q = (other (CallDown q) tt, tt)
+  calls_down false q = tt
+
+  tunnels_down : (b : Bool) (q : ℕ) → AllByRecursion Q (tunnel_down b q)
+  tunnels_down true q = (other (TunnelDown q) tt, tt)
+  tunnels_down false q = tt
+
+  marks_put : (b : Bool) (q mark : ℕ) → AllByRecursion Q (mark_by b q mark)
+  marks_put true q mark = (other (Mark q mark) tt, tt)
+  marks_put false q mark = tt
+
+  all_down : (ss : List ℕ) → AllByRecursion Q (map (λ q. CallDown q) ss)
+  all_down [] = tt
+  all_down (q ∷ ss) = (other (CallDown q) tt, all_down ss)
+
+  -- so it is of the records of such a move
+  pub none_up : (m : Move) → BringsNone m → AllByRecursion Q (records_of m)
+  unfolding records_of
+  none_up (move.Connected m) none = absurd none
+  none_up (move.Confirmed m) none = absurd none
+  none_up (move.FirstUp m) none = absurd none
+  none_up (move.SecondUp m) none = absurd none
+  none_up (move.EndTold m) none = calls_down m.booked m.session
+  none_up (move.EndHeard m) none = calls_down m.booked m.session
+  none_up (move.EndSilent m) none = calls_down m.booked m.session
+  none_up (move.Closed m) none = tunnels_down m.booked m.tunnel
+  none_up (move.ClosedBy m) none = tunnels_down m.booked m.tunnel
+  none_up (move.Cleared i booked) none = tunnels_down booked i
+  none_up (move.Forgot m) none = (other (TunnelDown m.tunnel) tt, tt)
+  none_up (move.Froze m) none = marks_put m.marked m.tunnel m.asked
+  none_up (move.ResetAttempting m) none = marks_put m.marked m.tunnel m.draw
+  none_up (move.TookAnswer m) none = all_down m.ended
+  none_up m none = tt
+
+  all_ceilings : (f : ℕ → Record) → ((k : ℕ) → Q (f k)) → (ns : List ℕ) → AllByRecursion Q (map f ns)
+  all_ceilings f each [] = tt
+  all_ceilings f each (n ∷ ns) = (each n, all_ceilings f each ns)
+
+  ceilings_so : (space : ℕ) (x y : Space) → AllByRecursion Q (ceilings_of space x y)
+  ceilings_so space x y =
+      all_ceilings (λ k. Ceiling space (min x.last (x.ceiling + 64 * k)))
+      (λ k. other (Ceiling space (min x.last (x.ceiling + 64 * k))) tt) (counting_from 1 ((y.ceiling - x.ceiling + 63) / 64))
+
+  -- and of all that a step leaves up to a stop, where it is so of its moves' records
+  pub contents_so : (n : ℕ) (e : End) (s : Stepped) → ((m : Move) → Among m s.moves → AllByRecursion Q (records_of m))
+      → AllByRecursion Q (take n (contents_of e s))
   unfolding contents_of
-  contents_bring n e s each =
-      all_take (Brings P) n _
-      (all_append (Brings P) _ _ (ceilings_bring 1 e.tunnel_ids s.end.tunnel_ids)
-      (all_append (Brings P) _ _ (ceilings_bring 2 e.session_ids s.end.session_ids)
-      (all_append (Brings P) _ _ (ceilings_bring 3 e.recovery_ids s.end.recovery_ids) (all_flat (Brings P) (λ m. records_of m) s.moves each))))
+  contents_so n e s each =
+      all_take Q n _
+      (all_append Q _ _ (ceilings_so 1 e.tunnel_ids s.end.tunnel_ids)
+      (all_append Q _ _ (ceilings_so 2 e.session_ids s.end.session_ids)
+      (all_append Q _ _ (ceilings_so 3 e.recovery_ids s.end.recovery_ids) (all_flat Q (λ m. records_of m) s.moves each))))
 
 -- ---- ceilings only rise
 

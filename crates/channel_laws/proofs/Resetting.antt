@@ -232,7 +232,7 @@ module _ (w v : World) (h k : History) (n i e : ℕ) (new : Account) (b : Begins
   }
 
   pub book_on : (m : ℕ) (q : Kept) → BookOk h m q → BookOk k m q
-  book_on m q ok = record { tunnels = λ j t is. booked_on h k n i e new b m t (ok.tunnels j t is); apart = ok.apart }
+  book_on m q ok = record { tunnels = λ j t is. booked_on h k n i e new b m t (ok.tunnels j t is); apart = ok.apart; calls = ok.calls }
 
   -- another node
   pub other_node_on : (m : ℕ) → (m ≡ n → ⊥) → (o : Option Node) → NodeOk w h m o → NodeOk v k m o

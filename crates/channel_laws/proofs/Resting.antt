@@ -447,7 +447,11 @@ module _ (w : World) (h : History) (number n : ℕ) (r : Role) (lns : ℕ) (secr
           live = λ i t there. absurd (none-some t (sym (at-none i) ∙ there));
           apart = λ i j t u there too. absurd (none-some t (sym (at-none i) ∙ there));
         },
-        record { tunnels = λ i b there. absurd (none-some b there); apart = λ i j b c there too. absurd (none-some b there) },
+        record {
+          tunnels = λ i b there. absurd (none-some b there);
+          apart = λ i j b c there too. absurd (none-some b there);
+          calls = λ s c there. absurd (none-some c there);
+        },
       )
 
   pub declared_holds : Holds (with_node w n made_node) h

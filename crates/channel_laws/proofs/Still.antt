@@ -4,6 +4,7 @@ use Rattle.std.proofs.lemmas.Bool.{true≢false}
 use Rattle.std.proofs.lemmas.Option.{none-some}
 use Rattle.std.specs.Prelude.{is_some, is_none, not, nat_lt, ◌==◌, ◌&&◌, if◌then◌else◌}
 use Rattle.std.proofs.lemmas.Bool.Decides.{nat_tests}
+use Rattle.id_source.specs.Spaces.{Space}
 use Rattle.id_table.specs.Ids.{at, put, without, at-none}
 use Rattle.id_table.specs.Order.{Ascends, at_new, at_other, same_or_not, found_without}
 use Rattle.tunnel_fsm.specs.Rows.{state_number}
@@ -329,6 +330,38 @@ put_fits calls s c new there same fits q k at_q = ⊎_elim
     (λ (o : q ≡ s → ⊥). fits q k (sym (at_other calls s new q o) ∙ at_q))
     (same_or_not q s)
 
+-- in a tunnel a call that is up takes the place of the one with its session
+module _ (w : World) (h : History) (n : ℕ) (e x : End) (ok : EndOk w h n e) (config : x.config ≡ e.config) (role : x.role ≡ e.role)
+    (ids : x.tunnel_ids ≡ e.tunnel_ids) where
+  pub call_end : (j s : ℕ) (t : Tunnel) (c new : Call) → at e.tunnels j ≡ Some t → at t.calls s ≡ Some c → is_up c.state ≡ true
+      → new.remote ≡ c.remote
+      → x.tunnels ≡ put e.tunnels j (record t { calls = put t.calls s new }) → EndOk w h n x
+  call_end j s t c new there is up same tunnels =
+      let u = record t { calls = put t.calls s new } in
+      let live = ok.live j t there in
+      let goes : GoesFrom e x = record {
+        config = config;
+        role = role;
+        ids = (let next = ap (λ (q : Space). q.next) ids in omega (arith, next));
+      } in
+      put_ok w h n e x ok goes j t u there tunnels refl refl
+      (live_as w h n j t u live
+      (record {
+        local = refl;
+        peer = refl;
+        remote = refl;
+        state = refl;
+        acked = refl;
+        queued = refl;
+        outstanding = λ le. le;
+        taken = refl;
+        letters = refl;
+        waits = up_waits t.calls s c new is up;
+        none = up_none t.calls s c new is;
+        query = refl;
+      })
+      refl live.recovery (put_fits t.calls s c new is same live.calls))
+
 -- a window of which a letter goes, once or again: what is acknowledged and queued stays
 record WindowOnly (c k : Numbers) : Type 0 where
   acked : k.window.acked ≡ c.window.acked
@@ -483,45 +516,18 @@ still_moves_keep codecs again room (move.Repeated m) still w h n node sender mom
     (λ live r is. live.recovery r is) (λ live q call is. live.calls q call is))
 still_moves_keep codecs again room (move.Negotiated m) still w h n node sender moment ev x d k =
     let c = k.does in
-    let new = with_link (turn_at c.calls.by c.calls.link).link c.call in
     by_end w h n node sender moment ev x d (move.Negotiated m) still k refl
-    (put_end w h n node sender moment ev x d (move.Negotiated m) k m.tunnel c.tunnel (record c.tunnel { calls = put c.tunnel.calls m.session new }) _ c.there c.after refl
-    (record { config = refl; role = refl; ids = omega arith })
-    (record {
-      local = refl;
-      peer = refl;
-      remote = refl;
-      state = refl;
-      acked = refl;
-      queued = refl;
-      outstanding = λ le. le;
-      taken = refl;
-      letters = refl;
-      waits = up_waits c.tunnel.calls m.session c.call new c.live c.up;
-      none = up_none c.tunnel.calls m.session c.call new c.live;
-      query = refl;
-    }) refl
-    (λ live r is. live.recovery r is) (λ live q call is. put_fits c.tunnel.calls m.session c.call new c.live refl live.calls q call is))
+    (subst (EndOk w h n) (sym c.after)
+    (call_end w h n node.end _
+    (ok w h n node sender moment ev x d (move.Negotiated m) k) refl refl refl m.tunnel m.session c.tunnel c.call
+    (with_link (turn_at c.calls.by c.calls.link).link c.call)
+    c.there c.live c.up refl refl))
 still_moves_keep codecs again room (move.Counted m) still w h n node sender moment ev x d k =
     let c = k.does in
     by_end w h n node sender moment ev x d (move.Counted m) still k refl
-    (put_end w h n node sender moment ev x d (move.Counted m) k m.tunnel c.tunnel (record c.tunnel { calls = put c.tunnel.calls m.session (counted c.call) }) _ c.there c.after refl
-    (record { config = refl; role = refl; ids = omega arith })
-    (record {
-      local = refl;
-      peer = refl;
-      remote = refl;
-      state = refl;
-      acked = refl;
-      queued = refl;
-      outstanding = λ le. le;
-      taken = refl;
-      letters = refl;
-      waits = up_waits c.tunnel.calls m.session c.call (counted c.call) c.live c.up;
-      none = up_none c.tunnel.calls m.session c.call (counted c.call) c.live;
-      query = refl;
-    }) refl
-    (λ live r is. live.recovery r is) (λ live q call is. put_fits c.tunnel.calls m.session c.call (counted c.call) c.live refl live.calls q call is))
+    (subst (EndOk w h n) (sym c.after)
+    (call_end w h n node.end _ (ok w h n node sender moment ev x d (move.Counted m) k) refl refl refl m.tunnel m.session c.tunnel c.call
+    (counted c.call) c.there c.live c.up refl refl))
 still_moves_keep codecs again room (move.EndSilent m) still w h n node sender moment ev x d k =
     let c = k.does in
     let order = (k.fit.tables.tunnels m.tunnel c.tunnel c.there).order in

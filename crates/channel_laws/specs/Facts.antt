@@ -24,7 +24,8 @@ use Rattle.tunnel_fsm.specs.Rows.{state_number}
 use Rattle.session_query.specs.Queries.{Asking}
 use Rattle.wire_base.specs.declared.pair.Pair.{Pair}
 use Rattle.session_book.specs.declared.record.BookTunnel.{BookTunnel}
-use Rattle.session_book.specs.Books.{Kept, tunnel_at}
+use Rattle.session_book.specs.declared.record.BookCall.{BookCall}
+use Rattle.session_book.specs.Books.{Kept, tunnel_at, call_at}
 use Rattle.end_names.specs.declared.role.Role.TheVariants.{Lac}
 use Rattle.end_names.specs.Names.{address_of, node_of}
 use Rattle.end_model.specs.declared.moves.Restored.{Restored}
@@ -397,6 +398,8 @@ pub record EndOk (w : World) (h : History) (n : ℕ) (e : End) : Type 0 where
 pub record BookOk (h : History) (n : ℕ) (k : Kept) : Type 0 where
   pub tunnels : (i : ℕ) (b : BookTunnel) → tunnel_at k i ≡ Some b → BookedOk h n b
   pub apart : (i j : ℕ) (b c : BookTunnel) → tunnel_at k i ≡ Some b → tunnel_at k j ≡ Some c → b.peer ≡ c.peer → b.remote ≡ c.remote → i ≡ j
+  -- ids of calls that the other end gave
+  pub calls : (s : ℕ) (c : BookCall) → call_at k s ≡ Some c → c.remote < 65536
 
 -- of a node that isn't declared nothing is known. What holds of a node by itself, as node_laws says it, is said beside this
 abbrev pub NodeOk : World → History → ℕ → Option Node → Type 0
