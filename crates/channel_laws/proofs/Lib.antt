@@ -79,5 +79,7 @@ mod Partners
 mod CutOff
 mod Ending
 mod Attempting
+mod Restarted
+mod Starting
 mod Wholly
 mod EachLine

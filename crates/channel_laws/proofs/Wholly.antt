@@ -1,6 +1,5 @@
 -- A whole step, with the frame that is handed up before it.
 use Rattle.std.proofs.Common.{⊎_elim, ◌≡◌, inl, inr, ℕ, ◌+◌, ◌^◌, ◌<◌, List, ◌++◌, refl, sym, ap, ◌∙◌, subst, arith}
-use Rattle.std.proofs.lemmas.Bool.{true≢false}
 use Rattle.std.specs.Prelude.{true, Option}
 use Rattle.id_table.specs.Ids.{at}
 use Rattle.recv_window.specs.Window.{ClassIsTrue}
@@ -9,7 +8,7 @@ use Rattle.end_model.specs.declared.moves.Move.{Move}
 use Rattle.end_model.specs.Contents.{contents_of}
 use Rattle.end_model.specs.Secrets.{uncovered_event}
 use Rattle.end_model.specs.End.{Stepped, step}
-use Rattle.world_model.specs.World.{World, Deed, Lined, hand_deed, hand_move, block_of, after_step, given, Sender, IsCut, commits}
+use Rattle.world_model.specs.World.{World, Deed, Lined, hand_deed, hand_move, block_of, after_step, given, Sender, IsCut, commits, cut_line}
 use Rattle.step_laws.specs.Steps.{IsOfNoStart}
 use Rattle.frame_laws.specs.Codecs.{Codecs}
 use Rattle.node_laws.specs.Nodes.{HoldsUp}
@@ -20,6 +19,7 @@ use Rattle.channel_laws.specs.Steps.{Keeps}
 use Rattle.channel_laws.specs.Whole.{IsAlong, NoMove, OneMore, Below, CountAlike, SameLook, LeadsIn, KnowsAlong, WholeKept, WholeStepsKeep, Leads, KnowsFrom, CutStepsKeep}
 use Rattle.channel_laws.proofs.Ending.{StepLaws, w2, h1, IsLed, all, holds2, below1, alike2, others2, cut_holds}
 use Rattle.channel_laws.proofs.Moving.{Kinds, each_keeps}
+use Rattle.channel_laws.proofs.Starting.{StartLaws, start_cut}
 use Rattle.channel_laws.proofs.Still.{same_history, nothing_by}
 
 -- a frame that was held is of no account
@@ -93,18 +93,26 @@ module _ (laws : StepLaws) (kinds : Kinds) (codecs : Codecs) (classes : ClassIsT
 pub whole_steps_keep : StepLaws → Kinds → Codecs → ClassIsTrue → WholeStepsKeep
 whole_steps_keep laws kinds codecs classes w h number x s most nodes holds had room known = whole_kept laws kinds codecs classes w h number x s most nodes holds had room known
 
--- ---- a step that a stop cuts off
+-- ---- a step, or a start, that a stop cuts off
 
-module _ (laws : StepLaws) (kinds : Kinds) (codecs : Codecs) (classes : ClassIsTrue) (w : World) (h : History) (number : ℕ) (x : Lined) (s : CutStep w number x) (most : ℕ)
-    (is_up : s.old.up ≡ true) (nodes : NodesHold w) (holds : Holds w h) (had : Below h most) (room : most + 147460 < 2 ^ 64)
-    (known : (event : Event) (sender : Option Sender) → ComesIn w s.node s.old event sender → KnowsFrom w h s.node sender s.found.clock (uncovered_event s.found.end.config.secret event)) where
-  module _ (ev : Event) (sender : Option Sender) (comes : ComesIn w s.node s.old ev sender) (is : s.stepped ≡ step s.found.end s.found.clock (block_of s.node number) ev) where
+module _ (laws : StepLaws) (starts : StartLaws) (kinds : Kinds) (codecs : Codecs) (classes : ClassIsTrue) (w : World) (h : History)
+    (number : ℕ) (x : Lined) (s : CutStep w number x) (most : ℕ)
+    (nodes : NodesHold w) (holds : Holds w h) (had : Below h most) (room : most + 147460 < 2 ^ 64)
+    (known : (event : Event) (sender : Option Sender) → s.old.up ≡ true → ComesIn w s.node s.old event sender
+    → KnowsFrom w h s.node sender s.found.clock (uncovered_event s.found.end.config.secret event)) where
+  -- nothing was done
+  undone : Holds (cut_line s.base number s.node s.found s.checkpoint).world h → Holds x.world (history_from x.done h)
+  unfolding history_from
+  undone ok = subst (λ ds. Holds x.world (history_from ds h)) (sym s.done) (subst (λ v. Holds v h) (sym s.world) ok)
+
+  module _ (is_up : s.old.up ≡ true) (ev : Event) (sender : Option Sender) (comes : ComesIn w s.node s.old ev sender)
+      (is : s.stepped ≡ step s.found.end s.found.clock (block_of s.node number) ev) where
     abbrev Made : World → History → List Move → Type 0
     Made v g made = Leads s.node sender s.found.clock (uncovered_event s.found.end.config.secret ev) w h made v g
 
     led_so : IsAlong Made s.node sender s.found.clock (uncovered_event s.found.end.config.secret ev)
     led_so = record {
-      knows = λ v g made ok j. known ev sender comes made v g j ok;
+      knows = λ v g made ok j. known ev sender is_up comes made v g j ok;
       moves = λ v g made node m y d start moved j ok. OneMore made v g node m y d start j moved;
     }
 
@@ -112,18 +120,18 @@ module _ (laws : StepLaws) (kinds : Kinds) (codecs : Codecs) (classes : ClassIsT
     cut_is = subst (λ q. commits s.found.checkpoint (contents_of s.found.end q) ≡ IsCut s.checkpoint) is s.cut
 
     cut_kept : Holds x.world (history_from x.done h)
-    unfolding history_from
     cut_kept =
-        subst (λ ds. Holds x.world (history_from ds h)) (sym s.done)
-        (subst (λ v. Holds v h) (sym s.world)
+        undone
         (cut_holds laws (λ m start. each_keeps kinds m start) codecs classes Made w h holds number s.node s.old s.was ((nodes s.node s.old s.was).up is_up) s.found s.finds s.base s.same ev
-        sender comes led_so NoMove most had room s.found.checkpoint s.checkpoint cut_is))
+        sender comes led_so NoMove most had room s.found.checkpoint s.checkpoint cut_is)
 
   any_kept : Holds x.world (history_from x.done h)
   any_kept = ⊎_elim
-      (λ k. cut_kept k.1.0 k.1.1 k.1.2 k.1.3)
-      (λ k. (let two = sym is_up ∙ k.0 in absurd (true≢false two)))
+      (λ k. cut_kept k.0 k.1.0 k.1.1 k.1.2 k.1.3)
+      (λ k. undone
+      (start_cut starts w h holds number s.node s.old s.was (nodes s.node s.old s.was) k.0 s.found s.finds s.base s.same s.checkpoint
+      (subst (λ q. commits s.found.checkpoint (contents_of s.found.end q) ≡ IsCut s.checkpoint) k.1 s.cut)))
       s.of
 
-pub cut_steps_keep : StepLaws → Kinds → Codecs → ClassIsTrue → CutStepsKeep
-cut_steps_keep laws kinds codecs classes w h number x s most is_up nodes holds had room known = any_kept laws kinds codecs classes w h number x s most is_up nodes holds had room known
+pub cut_steps_keep : StepLaws → StartLaws → Kinds → Codecs → ClassIsTrue → CutStepsKeep
+cut_steps_keep laws starts kinds codecs classes w h number x s most nodes holds had room known = any_kept laws starts kinds codecs classes w h number x s most nodes holds had room known

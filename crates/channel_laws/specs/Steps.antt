@@ -1,7 +1,7 @@
 -- The moves of a step, each made in the world to which the moves before it lead. Between two moves the node has the end of the chain, and still the
 -- checkpoint that it had before the step: what the step committed is put in its place behind the last move, and is then the book of the
 -- end that is left.
-use Rattle.std.specs.Prelude.{◌≡◌, ℕ, ◌+◌, ◌^◌, ◌<◌, ◌≤◌, true, List, length, slice_get, Option, Some, None, Ok}
+use Rattle.std.specs.Prelude.{◌≡◌, ℕ, ◌+◌, ◌^◌, ◌<◌, ◌≤◌, true, false, List, length, slice_get, Option, Some, None, Ok}
 use Rattle.id_table.specs.Ids.{at}
 use Rattle.l2tp_header.specs.declared.header.Header.{Header}
 use Rattle.l2tp_header.specs.Reading.{header_of, body_of}
@@ -22,7 +22,8 @@ use Rattle.world_model.specs.declared.packet.Packet.{Packet}
 use Rattle.world_model.specs.World.{World, Node, Sender, Deed, with_node, moved, epoch_of, sender_of}
 use Rattle.step_laws.specs.Arrivals.{IsFor}
 use Rattle.step_laws.specs.Moves.{Does}
-use Rattle.book_laws.specs.Books.{Fits}
+use Rattle.step_laws.specs.Starts.{IsSoundBook, IsOfStart}
+use Rattle.book_laws.specs.Books.{SpaceFits, Fits}
 use Rattle.connection_laws.specs.Steps.{IsDeed}
 use Rattle.channel_laws.specs.Accounts.{Account, History, about, after}
 use Rattle.channel_laws.specs.Facts.{PacketOk, Holds}
@@ -181,3 +182,25 @@ IsBeginning m = ⊥
 
 abbrev pub BeginningMovesKeep : Type 0
 BeginningMovesKeep = (m : Move) → IsBeginning m → Keeps m
+
+-- ---- moves of a start
+
+-- a move of a node that starts over the book that its checkpoint has, in a world that is as what was done says. Each tunnel that is there
+-- came back before, and waits for an answer. So no letter is given or taken, and nothing of epochs needs to be known
+pub record IsStarted (w : World) (h : History) (n : ℕ) (node : Node) (moment : ℕ) (ev : Event) (m : Move) (x : End) (d : Deed)
+    : Type 0 where
+  pub there : at w.nodes n ≡ Some node
+  pub holds : Holds w h
+  pub sound : IsSoundBook node.checkpoint.book
+  pub first : 0 < node.end.tunnel_ids.next
+  pub tunnel_ids : SpaceFits 65535 node.end.tunnel_ids
+  pub draws : SpaceFits 4294967295 node.end.recovery_ids
+  pub back : (i : ℕ) (t : Tunnel) → at node.end.tunnels i ≡ Some t → is_current (mode_of t.recovery) ≡ false
+  pub of : IsOfStart node.checkpoint.book m
+  pub does : Does node.end moment ev m x
+  pub deed : IsDeed d n node.end.role None m
+
+-- it keeps what holds, with what it did
+abbrev pub StartingMovesKeep : Type 0
+StartingMovesKeep = (m : Move) (w : World) (h : History) (n : ℕ) (node : Node) (moment : ℕ) (ev : Event) (x : End) (d : Deed)
+    → IsStarted w h n node moment ev m x d → Holds (moves_on w n node m x) (after h d)

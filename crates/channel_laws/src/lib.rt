@@ -4,14 +4,16 @@
 ghost use Rattle.channel_laws.specs.Heard.{NoneIsOfAnother};
 ghost use Rattle.channel_laws.specs.Lines.{LinesDo};
 ghost use Rattle.channel_laws.specs.Recoveries.{WrittenHasRoom, WrittenIsRead};
-ghost use Rattle.channel_laws.specs.Steps.{BeginningMovesKeep, GivingMovesKeep, OpeningMovesKeep, RecoveriesKeep, StillMovesKeep, TakingMovesKeep};
+ghost use Rattle.channel_laws.specs.Steps.{BeginningMovesKeep, GivingMovesKeep, OpeningMovesKeep, RecoveriesKeep, StartingMovesKeep, StillMovesKeep, TakingMovesKeep};
 ghost use Rattle.connection_laws.specs.Steps.{MovesKeep};
 ghost use Rattle.frame_laws.specs.Codecs.{Codecs};
 ghost use Rattle.recv_window.specs.Window.{ClassIsTrue};
 ghost use Rattle.book_laws.specs.Books.{StepsAreBooked};
+ghost use Rattle.book_laws.specs.Starts.{StartsAreBooked};
+ghost use Rattle.step_laws.specs.Starts.{StartsAreChains, StartsAreOfBooks};
 ghost use Rattle.step_laws.specs.Steps.{StepsAreChains, StepsAreNoStarts};
 ghost use Rattle.step_laws.specs.Ups.{ReadsAreFew};
-ghost use Rattle.channel_laws.specs.Whole.{CutStepsKeep, LinesKeep, WholeStepsKeep};
+ghost use Rattle.channel_laws.specs.Whole.{CutStepsKeep, LinesKeep, StartsKeep, WholeStepsKeep};
 
 /// The laws that are used.
 fn laws_below()
@@ -39,6 +41,17 @@ fn laws_of_steps()
     step_laws::steps_are_no_starts();
     step_laws::reads_are_few();
     book_laws::steps_are_booked();
+}
+
+/// The laws of single starts that are used.
+fn laws_of_starts()
+    ensures chains { StartsAreChains }
+    ensures of_books { StartsAreOfBooks }
+    ensures booked { StartsAreBooked }
+{
+    step_laws::starts_are_chains();
+    step_laws::starts_are_of_books();
+    book_laws::starts_are_booked();
 }
 
 /// In a world in which what is written in Facts and Epochs holds, a control message that may be delivered to a live tunnel, which is neither frozen
@@ -105,10 +118,10 @@ pub fn beginning_moves_keep()
     laws_below();
 }
 
-/// A step of a node that is up, all of which was committed, keeps what holds of channels over crashes: with the packets that it sends, and the book
-/// that its checkpoint has behind it; as long as the epochs of linked ends are known before each of its moves and no channel was given nearly 2^64 letters.
-/// No channel is given more than 81,919 letters more than any was before, and the moves of the step lead to a world that differs from the one that is
-/// left only in packets, births and the node's checkpoint.
+/// A step of a node that is up, all of which was committed, keeps what holds of channels over crashes: with the packets that it sends, and
+/// the book that its checkpoint has behind it; as long as the epochs of linked ends are known before each of its moves, and no channel was
+/// given nearly 2^64 letters. No channel is given more than 81,919 letters more than any was before, and the moves of the step lead to a
+/// world that has the ends that it leaves, and keeps the same of each tunnel and each answer.
 pub fn whole_steps_keep()
     ensures { WholeStepsKeep }
 {
@@ -122,14 +135,30 @@ pub fn whole_steps_keep()
     beginning_moves_keep();
 }
 
-/// A step of a node that is up, which a stop cuts off amid its records, keeps what holds of channels over crashes: nothing is done, and each tunnel
-/// that a record brought into the book was known by what had been sent before the step; as long as the epochs of linked ends are known wherever the
-/// moves of the step would lead.
+/// A move of a start keeps what holds: where a tunnel that the book has comes back with its calls, and an attempt at its recovery begins;
+/// where one is forgotten; and where the link of a call is opened. Nothing needs to be known of epochs, as no letter is given or taken.
+pub fn starting_moves_keep()
+    ensures { StartingMovesKeep }
+{}
+
+/// The start of a node that is down, all of which was committed, keeps what holds of channels over crashes: with the packets that it sends,
+/// and the book that its checkpoint has behind it. No channel is given a letter, and the moves of the start lead to a world that has the
+/// ends that it leaves, and keeps the same of each tunnel and each answer.
+pub fn starts_keep()
+    ensures { StartsKeep }
+{
+    laws_of_starts();
+}
+
+/// A step of a node that is up, or the start of one that is down, which a stop cuts off amid its records, keeps what holds of channels over
+/// crashes: nothing is done, and each tunnel that a record brought into the book was known by what had been sent before the step; as long
+/// as the epochs of linked ends are known wherever the moves of the step would lead. The records of a start bring none.
 pub fn cut_steps_keep()
     ensures { CutStepsKeep }
 {
     laws_below();
     laws_of_steps();
+    laws_of_starts();
     still_moves_keep();
     recoveries_keep();
     giving_moves_keep();
@@ -138,14 +167,15 @@ pub fn cut_steps_keep()
     beginning_moves_keep();
 }
 
-/// Each line of the grammar that fits keeps what holds of channels over crashes, in which no node that is down starts: also one in which a node falls, a
-/// stop is armed, or a step is cut off; as long as the epochs of linked ends are known wherever the moves of a step lead, and no channel was given
-/// nearly 2^64 letters.
+/// Each line of the grammar that fits keeps what holds of channels over crashes: one in which a node is declared, a stop is armed, a node
+/// falls, makes a step or starts, and one in which a stop cuts that off; as long as the epochs of linked ends are known wherever the moves
+/// of a step lead, and no channel was given nearly 2^64 letters.
 pub fn lines_keep()
     ensures { LinesKeep }
 {
     laws_below();
     laws_of_steps();
+    laws_of_starts();
     still_moves_keep();
     recoveries_keep();
     giving_moves_keep();

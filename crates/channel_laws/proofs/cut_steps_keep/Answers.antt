@@ -1,5 +1,6 @@
 use Rattle.channel_laws.proofs.Ending.{StepLaws}
 use Rattle.channel_laws.proofs.Moving.{Kinds}
+use Rattle.channel_laws.proofs.Starting.{StartLaws}
 use Rattle.channel_laws.proofs.Wholly.{cut_steps_keep}
 use Rattle.channel_laws.proofs.cut_steps_keep.Goals as goal
 
@@ -8,6 +9,8 @@ returns c =
     let below = c.laws_below.ensures in
     let steps = c.laws_of_steps.ensures in
     let laws : StepLaws = record { chains = steps.chains; no_starts = steps.no_starts; reads = steps.reads; booked = steps.booked; again = below.again; has_room = below.room } in
+    let started = c.laws_of_starts.ensures in
+    let starts : StartLaws = record { chains = started.chains; of_books = started.of_books; booked = started.booked } in
     let kinds : Kinds = record {
       still = c.still_moves_keep.ensures;
       recoveries = c.recoveries_keep.ensures;
@@ -16,4 +19,4 @@ returns c =
       taking = c.taking_moves_keep.ensures;
       beginning = c.beginning_moves_keep.ensures;
     } in
-    cut_steps_keep laws kinds below.codecs below.classes
+    cut_steps_keep laws starts kinds below.codecs below.classes
