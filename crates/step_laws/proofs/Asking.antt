@@ -611,8 +611,7 @@ module _ (role : Role) (calls : List (ℕ × Call)) where
         → Asked (heeds_answer role c calls answers r t)
     unfolding heeds_answer hears_answer asks_more
     answer_asked c answers (Ok gone) t b =
-        let u = took_answer calls answers gone t in
-        by_asked (next_batch u.query) u (took_rests answers gone t b)
+        let u = took_answer calls answers gone t in by_asked (next_batch u.query) u (took_rests answers gone t b)
     answer_asked c answers (Err place) t b = takes_asked c not_asked event.AdminClose (tells_id 0) t b
 
     -- ---- control messages

@@ -1,7 +1,10 @@
 -- Lists that grow at their end, and what is found in lists and tables.
-use Rattle.std.proofs.Common.{◌≡◌, ◌⊎◌, inl, inr, ⊎_elim, ℕ, ◌<◌, arith, Bool, true, false, cond, eqb, zero, suc, List, [], ◌∷◌, ◌++◌, refl, sym, ap, ◌∙◌, subst, Option, Some, None}
+use Rattle.std.proofs.Common.{◌≡◌, ◌⊎◌, inl, inr, ⊎_elim, ℕ, ◌+◌, ◌<◌, arith, length, Bool, true, false, cond, eqb, zero, suc, List, [], ◌∷◌, ◌++◌, refl, sym, ap, ◌∙◌, subst, Option, Some, None}
 use Rattle.std.proofs.lemmas.Bool.{eqb-true, eqb-false, true≢false}
 use Rattle.std.proofs.lemmas.Option.{none-some}
+use Rattle.std.proofs.lemmas.Grind.{flat_map-append}
+use Rattle.std.proofs.lemmas.List.{append-nil, length-append}
+use Rattle.std.specs.List.{flat_map}
 use Rattle.std.specs.List.{AllByRecursion, find}
 use Rattle.std.specs.Prelude.{slice_get, ◌&&◌, ◌||◌, not, map}
 use Rattle.std.specs.declared.cmp.Ordering.{Ordering}
@@ -30,6 +33,17 @@ all_push P (y ∷ xs) x h p = (h.0, all_push P xs x h.1 p)
 pub all_append : {X : Type 0} (P : X → Type 0) (xs ys : List X) → AllByRecursion P xs → AllByRecursion P ys → AllByRecursion P (xs ++ ys)
 all_append P [] ys h k = k
 all_append P (x ∷ xs) ys h k = (h.0, all_append P xs ys h.1 k)
+
+-- nothing more, where the last one gives nothing
+pub none_more : {X Y : Type 0} (f : X → List Y) (xs : List X) (x : X) → f x ≡ [] → flat_map f (xs ++ x ∷ []) ≡ flat_map f xs
+none_more f xs x none = flat_map-append f xs (x ∷ []) ∙ ap (λ ys. flat_map f xs ++ (ys ++ [])) none ∙ append-nil (flat_map f xs)
+
+-- one more, where the last one gives one
+pub one_more : {X Y : Type 0} (f : X → List Y) (xs : List X) (x : X) (y : Y) → f x ≡ y ∷ [] → length (flat_map f (xs ++ x ∷ [])) ≡ length (flat_map f xs) + 1
+one_more f xs x y one =
+    let before = flat_map f xs in
+    let more : flat_map f (xs ++ x ∷ []) ≡ before ++ y ∷ [] = flat_map-append f xs (x ∷ []) ∙ ap (λ ys. before ++ (ys ++ [])) one in
+    rw more (length-append before (y ∷ []))
 
 pub all_map : {X : Type 0} (P Q : X → Type 0) → ((x : X) → P x → Q x) → (xs : List X) → AllByRecursion P xs → AllByRecursion Q xs
 all_map P Q f [] h = tt

@@ -1,7 +1,5 @@
 -- A turn hands nothing up, one call at most is born in it, and Nr is read once at most.
-use Rattle.std.proofs.Common.{◌≡◌, inl, inr, ℕ, ◌+◌, ◌≤◌, Bool, true, false, zero, suc, List, [], ◌∷◌, ◌++◌, length, refl, sym, ap, ◌∙◌, subst, Option, Some, None, Result, Ok, Err, arith}
-use Rattle.std.proofs.lemmas.Grind.{flat_map-append}
-use Rattle.std.proofs.lemmas.List.{append-nil, length-append}
+use Rattle.std.proofs.Common.{◌≡◌, inl, inr, ℕ, ◌+◌, ◌≤◌, Bool, true, false, zero, suc, List, [], ◌∷◌, ◌++◌, length, refl, sym, ◌∙◌, subst, Option, Some, None, Result, Ok, Err, arith}
 use Rattle.std.specs.Prelude.{◌==◌, ◌&&◌, ◌||◌, nat_le, nat_lt, unwrap_or, not}
 use Rattle.std.specs.List.{AllByRecursion, flat_map}
 use Rattle.id_table.specs.Ids.{at, ids_of}
@@ -68,7 +66,7 @@ use Rattle.end_model.specs.Querying.{answered_query, answers_query, asks_more, a
 use Rattle.step_laws.specs.Ups.{ups_of_output, ups_of_move, births_of_move, reads_of_move}
 use Rattle.step_laws.specs.Letters.{Among}
 use Rattle.session_query.specs.Queries.{next_batch}
-use Rattle.step_laws.proofs.Lists.{all_push, branch}
+use Rattle.step_laws.proofs.Lists.{all_push, branch, none_more, one_more}
 
 -- of a frame that a move sends down a call this is so; and no move is one of a start
 abbrev pub SentSo : (ℕ → List ℕ → Type 0) → Move → Type 0
@@ -90,17 +88,6 @@ module _ (F : ℕ → List ℕ → Type 0) (on : Ground) where
 
   abbrev pub IsQuiet : ℕ → ℕ → Turn → Type 0
   IsQuiet most reads t = AreQuiet most reads t.outputs t.moves t.on
-
-  -- nothing more, where the last one gives nothing
-  none_more : {X Y : Type 0} (f : X → List Y) (xs : List X) (x : X) → f x ≡ [] → flat_map f (xs ++ x ∷ []) ≡ flat_map f xs
-  none_more f xs x none = flat_map-append f xs (x ∷ []) ∙ ap (λ ys. flat_map f xs ++ (ys ++ [])) none ∙ append-nil (flat_map f xs)
-
-  -- one more, where the last one gives one
-  one_more : {X Y : Type 0} (f : X → List Y) (xs : List X) (x : X) (y : Y) → f x ≡ y ∷ [] → length (flat_map f (xs ++ x ∷ [])) ≡ length (flat_map f xs) + 1
-  one_more f xs x y one =
-      let before = flat_map f xs in
-      let more : flat_map f (xs ++ x ∷ []) ≡ before ++ y ∷ [] = flat_map-append f xs (x ∷ []) ∙ ap (λ ys. before ++ (ys ++ [])) one in
-      rw more (length-append before (y ∷ []))
 
   -- one more output, and one more move, that give nothing
   pub told : {most reads : ℕ} {outs : List Out} {ms : List Move} {g : Ground} (o : Out) → ups_of_output o ≡ [] → AreQuiet most reads outs ms g

@@ -19,7 +19,6 @@ use Rattle.end_model.specs.declared.moves.Move.{Move}
 use Rattle.end_model.specs.declared.moves.Move.TheVariants as move
 use Rattle.end_model.specs.Tunnels.{Tunnel, Recovering, ByAttempt, ByAnswer, connection_of, mode_of, is_current}
 use Rattle.end_model.specs.Messages.{opening_of, request_of, connection}
-use Rattle.control_message.specs.declared.message.Opening.{Opening}
 use Rattle.control_message.specs.declared.message.Recovery.{Recovery}
 use Rattle.control_message.specs.declared.message.Suggested.{Suggested}
 use Rattle.control_message.specs.Pairs.{pairs_of}
@@ -27,7 +26,7 @@ use Rattle.avp_codec.specs.Spelling.{spelling}
 use Rattle.wire_base.specs.declared.cause.Cause.{Cause}
 use Rattle.recovery_tunnel.specs.Connections.{ControlConnection, letter_of, stop_of}
 use Rattle.recovery_tunnel.specs.Attempts.{request_of as attempt_request}
-use Rattle.recovery_tunnel.specs.Answers.{Answering, reply_of}
+use Rattle.recovery_tunnel.specs.Answers.{reply_of}
 use Rattle.step_laws.specs.Hides.{Asks, Responds}
 
 -- one of them is this one
