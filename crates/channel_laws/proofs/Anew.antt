@@ -179,7 +179,7 @@ module _ (h k : History) (n i e : ℕ) (new : Account) (b : Begins h k n i e new
 
   -- ---- accounts
 
-  given_on : (m j u : ℕ) → (k.accounts m j u).given ≡ (h.accounts m j u).given
+  pub given_on : (m j u : ℕ) → (k.accounts m j u).given ≡ (h.accounts m j u).given
   given_on m j u = ⊎_elim
       (λ (q : (m ≡ n) × (j ≡ i) × (u ≡ e)).
       rw (q.0, q.1, q.2) (ap (λ (a : Account). a.given) b.here ∙ (b.given ∙ sym (ap (λ (a : Account). a.given) b.was))))

@@ -209,7 +209,7 @@ module _ (laws : calm_steps.MovesKeep) (codecs : Codecs) (again : WrittenIsRead)
 
   -- ---- the move, in the words of connection_laws
 
-  accounts_to : (p j : ℕ) → calm_facts.AccountOk (calm_of h) p j (calm_of h p j)
+  pub accounts_to : (p j : ℕ) → calm_facts.AccountOk (calm_of h) p j (calm_of h p j)
   accounts_to p j = account_to w h p j (k.holds.accounts p j 0)
 
   live_bare : calm_facts.LiveOk (calm_of h) n i (calm_of h n i) (bare t)
@@ -226,7 +226,7 @@ module _ (laws : calm_steps.MovesKeep) (codecs : Codecs) (again : WrittenIsRead)
   unfolding Ascends
   alone_ascends = ascends-put i (bare t) [] tt
 
-  end_to : calm_facts.EndOk (calm_of h) n (alone_in node.end i t)
+  pub end_to : calm_facts.EndOk (calm_of h) n (alone_in node.end i t)
   end_to = record {
     node = both_ok.0.node;
     number = both_ok.0.number;

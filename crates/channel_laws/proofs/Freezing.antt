@@ -55,30 +55,30 @@ plain_unasked l body o (AsAFault avps own serial number is fits pairs fault kind
     let both = sym (no_message_there body avps own pairs fault kind told) ∙ said in absurd cc
 
 -- the attempt that asks for the recovery of a tunnel
-record IsAsked (h : History) (n remote peer attempt : ℕ) : Type 0 where
-  from : ℕ
-  from_fits : from < 256
-  address : peer ≡ address_of from
-  tried : Restored
-  there : h.attempts from attempt ≡ Some tried
-  local_is : tried.tunnel.local ≡ remote
-  goes : tried.tunnel.peer ≡ address_of n
+pub record IsAsked (h : History) (n remote peer attempt : ℕ) : Type 0 where
+  pub from : ℕ
+  pub from_fits : from < 256
+  pub address : peer ≡ address_of from
+  pub tried : Restored
+  pub there : h.attempts from attempt ≡ Some tried
+  pub local_is : tried.tunnel.local ≡ remote
+  pub goes : tried.tunnel.peer ≡ address_of n
 
 module _ (codecs : Codecs) (again : WrittenIsRead) (room : WrittenHasRoom) (w : World) (h : History) (n : ℕ) (node : Node) (sender : Option Sender) (moment : ℕ) (ev : Event)
     (m : Froze) (x : End) (d : Deed) (k : IsMoved w h n node sender moment ev (move.Froze m) x d) where
-  does : Freezes node.end ev m x
+  abbrev pub does : Freezes node.end ev m x
   does = k.does
 
-  abbrev i : ℕ
+  abbrev pub i : ℕ
   i = m.tunnel
 
-  abbrev other : ℕ
+  abbrev pub other : ℕ
   other = node_of m.peer
 
   both_ok : EndOk w h n node.end × BookOk h n node.checkpoint.book
   both_ok = subst (NodeOk w h n) k.there (k.holds.nodes n)
 
-  live : LiveOk w h n i does.tunnel
+  pub live : LiveOk w h n i does.tunnel
   live = both_ok.0.live i does.tunnel does.there
 
   -- ---- what asks for it
@@ -102,7 +102,7 @@ module _ (codecs : Codecs) (again : WrittenIsRead) (room : WrittenHasRoom) (w : 
   by_message p own named _ (Confirms f response is attempt from_is le) same fits to_n from = absurd cc
   by_message p own named _ (Refuses result error fit) same fits to_n from = absurd cc
 
-  asked : IsAsked h n m.remote m.peer m.attempt
+  pub asked : IsAsked h n m.remote m.peer m.attempt
   asked = ⊎_elim
       (λ (f : FromTunnel w h n node.end sender does.letter does.came.bytes). ⊎_elim
       (λ q.
@@ -125,10 +125,10 @@ module _ (codecs : Codecs) (again : WrittenIsRead) (room : WrittenHasRoom) (w : 
       f.says) r)
       (heard w h k.holds codecs again room n node.end sender ev k.comes does.letter does.came)
 
-  tried_ok : AttemptOk h asked.from m.attempt asked.tried
+  pub tried_ok : AttemptOk h asked.from m.attempt asked.tried
   tried_ok = k.holds.attempts asked.from m.attempt asked.tried asked.there
 
-  other_is : other ≡ asked.from
+  pub other_is : other ≡ asked.from
   other_is = ap node_of asked.address ∙ node_again asked.from asked.from_fits
 
   link_from : AreLinked h.accounts n i asked.from m.remote
@@ -141,18 +141,18 @@ module _ (codecs : Codecs) (again : WrittenIsRead) (room : WrittenHasRoom) (w : 
       (subst (λ j. (h.accounts asked.from j 0).part ≡ Acceptor → (partner_in h.accounts 0 (h.accounts asked.from j 0)).remote ≡ j) asked.local_is b.learned)
       (subst (λ j. (h.accounts asked.from j 0).closed ≡ Some 0 → ⊥) asked.local_is b.late)
 
-  link : AreLinked h.accounts n i other m.remote
+  pub link : AreLinked h.accounts n i other m.remote
   link = subst (λ q. AreLinked h.accounts n i q m.remote) (sym other_is) link_from
 
-  made_other : IsMade (h.accounts other m.remote 0)
+  pub made_other : IsMade (h.accounts other m.remote 0)
   made_other = subst (λ q. IsMade (h.accounts q m.remote 0)) (sym other_is) (subst (λ j. IsMade (h.accounts asked.from j 0)) asked.local_is tried_ok.booked.made)
 
   -- ---- its id is new
 
-  drawn : (m.answer ≡ node.end.tunnel_ids.next) × (m.answer ≤ node.end.tunnel_ids.last)
+  pub drawn : (m.answer ≡ node.end.tunnel_ids.next) × (m.answer ≤ node.end.tunnel_ids.last)
   drawn = draw_is node.end.tunnel_ids m.answer does.local
 
-  fresh : h.answers n m.answer ≡ None
+  pub fresh : h.answers n m.answer ≡ None
   fresh = by (h.answers n m.answer) refl
     where
       by : (o : Option Froze) → h.answers n m.answer ≡ o → o ≡ None
@@ -161,13 +161,13 @@ module _ (codecs : Codecs) (again : WrittenIsRead) (room : WrittenHasRoom) (w : 
 
   -- ---- what is known then
 
-  abbrev answers_then : ℕ → ℕ → Option Froze
+  abbrev pub answers_then : ℕ → ℕ → Option Froze
   answers_then = λ p c. answers_by d d.move p c (h.answers p c)
 
   answers_are : (p c : ℕ) → answers_then p c ≡ (if (d.node == p) && (m.answer == c) then Some m else h.answers p c)
   answers_are p c = ap (λ q. answers_by d q p c (h.answers p c)) k.deed.move_is
 
-  own_answered : answers_then n m.answer ≡ Some m
+  pub own_answered : answers_then n m.answer ≡ Some m
   own_answered = answers_are n m.answer ∙ (ap (λ b. if b && (m.answer == m.answer) then Some m else h.answers n m.answer) (eq-eqb d.node n k.deed.node_is)
       ∙ ap (λ b. if true && b then Some m else h.answers n m.answer) (eq-eqb m.answer m.answer refl))
 
@@ -176,29 +176,29 @@ module _ (codecs : Codecs) (again : WrittenIsRead) (room : WrittenHasRoom) (w : 
   both_true true false is = absurd (true≢false (sym is))
   both_true false b is = absurd (true≢false (sym is))
 
-  other_answered : (p c : ℕ) → ((p ≡ n) × (c ≡ m.answer) → ⊥) → answers_then p c ≡ h.answers p c
+  pub other_answered : (p c : ℕ) → ((p ≡ n) × (c ≡ m.answer) → ⊥) → answers_then p c ≡ h.answers p c
   other_answered p c apart = answers_are p c ∙ by ((d.node == p) && (m.answer == c)) refl
     where
       by : (b : Bool) → (d.node == p) && (m.answer == c) ≡ b → (if b then Some m else h.answers p c) ≡ h.answers p c
       by true is = (let both = both_true (d.node == p) (m.answer == c) is in absurd (apart (sym (eqb-true d.node p both.0) ∙ k.deed.node_is, sym (eqb-true m.answer c both.1))))
       by false is = refl
 
-  either : (p c : ℕ) → ((p ≡ n) × (c ≡ m.answer)) ⊎ ((p ≡ n) × (c ≡ m.answer) → ⊥)
+  pub either : (p c : ℕ) → ((p ≡ n) × (c ≡ m.answer)) ⊎ ((p ≡ n) × (c ≡ m.answer) → ⊥)
   either p c = ⊎_elim
       (λ (a : p ≡ n). ⊎_elim (λ (b : c ≡ m.answer). inl (a, b)) (λ no. inr (λ (r : (p ≡ n) × (c ≡ m.answer)). no r.1)) (same_or_not c m.answer))
       (λ no. inr (λ (r : (p ≡ n) × (c ≡ m.answer)). no r.0))
       (same_or_not p n)
 
-  not_new : (p c : ℕ) (f : Froze) → h.answers p c ≡ Some f → (p ≡ n) × (c ≡ m.answer) → ⊥
+  pub not_new : (p c : ℕ) (f : Froze) → h.answers p c ≡ Some f → (p ≡ n) × (c ≡ m.answer) → ⊥
   not_new p c f is both = let no : Some f ≡ None = sym is ∙ (ap₂ h.answers both.0 both.1 ∙ fresh) in cc
 
   kept : (p c : ℕ) (f : Froze) → h.answers p c ≡ Some f → answers_then p c ≡ Some f
   kept p c f is = other_answered p c (not_new p c f is) ∙ is
 
-  abbrev later : History
+  abbrev pub later : History
   later = record { accounts = h.accounts; attempts = h.attempts; answers = answers_then }
 
-  after_is : after h d ≡ later
+  pub after_is : after h d ≡ later
   after_is = λ z. record {
     accounts = λ p j u. account p j u (h.accounts p j u) z;
     attempts = λ p a. attempt p a (h.attempts p a) z;
@@ -219,49 +219,49 @@ module _ (codecs : Codecs) (again : WrittenIsRead) (room : WrittenHasRoom) (w : 
 
   -- ---- the world
 
-  abbrev before : World
+  abbrev pub before : World
   before = with_end w n node x
 
-  abbrev e : ℕ
+  abbrev pub e : ℕ
   e = min ((standing_of before n i).made + 1) (2 ^ 64 - 1)
 
-  abbrev first_made : World
+  abbrev pub first_made : World
   first_made = has_made before n i e
 
-  abbrev both_made : World
+  abbrev pub both_made : World
   both_made = has_made first_made other m.remote e
 
-  one : MadeOnly before first_made n i e
+  pub one : MadeOnly before first_made n i e
   one = has_made_only before n i e
 
-  two : MadeOnly first_made both_made other m.remote e
+  pub two : MadeOnly first_made both_made other m.remote e
   two = has_made_only first_made other m.remote e
 
-  found : IsThere (record node { end = x }) (at both_made.nodes n)
+  pub found : IsThere (record node { end = x }) (at both_made.nodes n)
   found = there_still (record node { end = x }) (at both_made.nodes n)
       (subst (λ q. SameNode q (at both_made.nodes n)) (base_here w n node k.there x)
       (same_then (at before.nodes n) (at first_made.nodes n) (at both_made.nodes n) (one.nodes n) (two.nodes n)))
 
-  abbrev v : World
+  abbrev pub v : World
   v = answered both_made n m.answer e found.node found.is
 
-  moves_is : moves_on w n node (move.Froze m) x ≡ v
+  pub moves_is : moves_on w n node (move.Froze m) x ≡ v
   unfolding moved makes_epoch
   moves_is = answers_so both_made n m.answer e found.node found.is
 
-  standing_then : (p j : ℕ) → standing_of v p j ≡ standing_of both_made p j
+  pub standing_then : (p j : ℕ) → standing_of v p j ≡ standing_of both_made p j
   standing_then p j = answered_standing both_made n m.answer e found.node found.is p j
 
-  standing_before : (p j : ℕ) → standing_of before p j ≡ standing_of w p j
+  pub standing_before : (p j : ℕ) → standing_of before p j ≡ standing_of w p j
   standing_before p j = base_same w n node k.there x p j
 
-  epochs : (p j : ℕ) → epoch_of v p j ≡ epoch_of w p j
+  pub epochs : (p j : ℕ) → epoch_of v p j ≡ epoch_of w p j
   epochs p j = ap (λ (s : Standing). s.epoch) (standing_then p j) ∙ (two.epochs p j ∙ (one.epochs p j ∙ ap (λ (s : Standing). s.epoch) (standing_before p j)))
 
-  losts : (p j : ℕ) → (standing_of v p j).lost ≡ (standing_of w p j).lost
+  pub losts : (p j : ℕ) → (standing_of v p j).lost ≡ (standing_of w p j).lost
   losts p j = ap (λ (s : Standing). s.lost) (standing_then p j) ∙ (two.losts p j ∙ (one.losts p j ∙ ap (λ (s : Standing). s.lost) (standing_before p j)))
 
-  few : (standing_of w n i).made < 2 ^ 64
+  pub few : (standing_of w n i).made < 2 ^ 64
   few = (k.holds.standings n i).fits
 
   -- the new epoch is none of those below
@@ -271,11 +271,11 @@ module _ (codecs : Codecs) (again : WrittenIsRead) (room : WrittenHasRoom) (w : 
   e_fits : e < 2 ^ 64
   e_fits = omega arith
 
-  e_some : 0 < e
+  pub e_some : 0 < e
   e_some = omega arith
 
   -- each is counted as before, or the new epoch is made
-  counts : (p j : ℕ) → ((standing_of v p j).made ≡ (standing_of w p j).made) ⊎ (((standing_of v p j).made ≡ e) × ((standing_of w p j).made ≤ e))
+  pub counts : (p j : ℕ) → ((standing_of v p j).made ≡ (standing_of w p j).made) ⊎ (((standing_of v p j).made ≡ e) × ((standing_of w p j).made ≤ e))
   counts p j = ⊎_elim
       (λ (same : (standing_of both_made p j).made ≡ (standing_of first_made p j).made). ⊎_elim
       (λ (again : (standing_of first_made p j).made ≡ (standing_of before p j).made).
@@ -288,14 +288,14 @@ module _ (codecs : Codecs) (again : WrittenIsRead) (room : WrittenHasRoom) (w : 
       ))
       (two.made p j)
 
-  own_made : (standing_of v n i).made ≡ e
+  pub own_made : (standing_of v n i).made ≡ e
   own_made = ap (λ (s : Standing). s.made) (standing_then n i)
       ∙ ⊎_elim
       (λ (same : (standing_of both_made n i).made ≡ (standing_of first_made n i).made). same ∙ one.own (record node { end = x }) (base_here w n node k.there x))
       (λ q. q.2)
       (two.made n i)
 
-  makes_as : (p c : ℕ) (f : Froze) → h.answers p c ≡ Some f → makes v p c ≡ makes w p c
+  pub makes_as : (p c : ℕ) (f : Froze) → h.answers p c ≡ Some f → makes v p c ≡ makes w p c
   makes_as p c f is =
       other_answer both_made n m.answer e found.node found.is p c (not_new p c f is)
       ∙ (same_answer (at before.nodes p) (at both_made.nodes p) (same_then (at before.nodes p) (at first_made.nodes p) (at both_made.nodes p) (one.nodes p) (two.nodes p)) c

@@ -14,20 +14,20 @@ pub mod Resetting
 pub mod Deeds
 pub mod Answering
 mod Ends
-mod Entering
-mod Waiting
-mod Sessions
+pub mod Entering
+pub mod Waiting
+pub mod Sessions
 mod Begun
-mod ResetsAnswering
-mod Making
+pub mod ResetsAnswering
+pub mod Making
 mod Answered
-mod Established
+pub mod Established
 mod Readings
-mod Coming
-mod Naming
+pub mod Coming
+pub mod Naming
 mod Replying
-mod Freezing
-mod ResetsAttempting
+pub mod Freezing
+pub mod ResetsAttempting
 mod Recoveries
 mod Extending
 mod Later
@@ -56,30 +56,31 @@ pub mod Declining
 mod Beginnings
 mod RecoveryLetters
 mod ControlSent
-mod OfEnds
+pub mod OfEnds
 mod Inactive
-mod Agreeing
+pub mod Agreeing
 mod Numbering
 mod Nearness
-mod Looks
+pub mod Looks
 mod Mailing
 mod Reaching
 mod Arriving
 mod Budgets
 mod Moving
 pub mod Stepping
-mod Committing
+pub mod Committing
 mod Refusing
 mod Sending
 mod Records
 mod Earlier
 mod Cutting
-mod MoveLists
-mod Partners
+pub mod MoveLists
+pub mod Partners
 mod CutOff
 mod Ending
-mod Attempting
-mod Restarted
-mod Starting
+pub mod Attempting
+pub mod Restarted
+pub mod Starting
 mod Wholly
 mod EachLine
+pub mod Parts

@@ -26,46 +26,46 @@ use Rattle.channel_laws.proofs.Begun.{resets_hold}
 
 module _ (w : World) (h : History) (n : ℕ) (node : Node) (sender : Option Sender) (moment : ℕ) (ev : Event) (m : ResetAnswering) (x : End) (d : Deed)
     (k : IsMoved w h n node sender moment ev (move.ResetAnswering m) x d) where
-  does : ResetsAnswering node.end moment ev m x
+  abbrev pub does : ResetsAnswering node.end moment ev m x
   does = k.does
 
-  abbrev i : ℕ
+  abbrev pub i : ℕ
   i = m.tunnel
 
-  abbrev e : ℕ
+  abbrev pub e : ℕ
   e = makes w n m.answer
 
-  abbrev v : World
+  abbrev pub v : World
   v = world_then w n node k.there x i e
 
-  moves_is : moves_on w n node (move.ResetAnswering m) x ≡ v
+  pub moves_is : moves_on w n node (move.ResetAnswering m) x ≡ v
   unfolding moved
   moves_is = ap (λ q. enters_epoch (with_end w n node x) n m.tunnel q) (base_makes w n node k.there x n m.answer) ∙ enters_is w n node k.there x m.tunnel e
 
-  epoch_now : epoch_of v n i ≡ e
+  pub epoch_now : epoch_of v n i ≡ e
   epoch_now = ap (λ (s : Standing). s.epoch) (own_standing w n node k.there x i e)
 
   both_ok : EndOk w h n node.end × BookOk h n node.checkpoint.book
   both_ok = subst (NodeOk w h n) k.there (k.holds.nodes n)
 
-  live : LiveOk w h n i does.tunnel
+  pub live : LiveOk w h n i does.tunnel
   live = both_ok.0.live i does.tunnel does.there
 
   -- ---- its answer
 
-  answered : IsRecovered w h n i (ByAnswer does.old)
+  pub answered : IsRecovered w h n i (ByAnswer does.old)
   answered = live.recovery (ByAnswer does.old) does.answers
 
-  abbrev f : Froze
+  abbrev pub f : Froze
   f = answered.0
 
-  is : h.answers n m.answer ≡ Some f
+  pub is : h.answers n m.answer ≡ Some f
   is = ap (h.answers n) (sym does.local) ∙ answered.1
 
-  ok : AnswerOk w h n m.answer f
+  pub ok : AnswerOk w h n m.answer f
   ok = k.holds.answers n m.answer f is
 
-  link : AreLinked h.accounts n i (node_of f.peer) f.remote
+  pub link : AreLinked h.accounts n i (node_of f.peer) f.remote
   link = subst (λ q. AreLinked h.accounts n q (node_of f.peer) f.remote) answered.2 ok.linked
 
   numbers : ◌≡◌ {A = Suggested} (record { ns = m.expect; nr = m.send_from }) (record { ns = f.expect; nr = f.send_from })
@@ -77,31 +77,31 @@ module _ (w : World) (h : History) (n : ℕ) (node : Node) (sender : Option Send
   expect_is : m.expect ≡ f.expect
   expect_is = ap (λ (s : Suggested). s.ns) numbers
 
-  inactive : is_current (mode_of does.tunnel.recovery) ≡ false
+  pub inactive : is_current (mode_of does.tunnel.recovery) ≡ false
   inactive = ap (λ r. is_current (mode_of r)) does.answers ∙ waits_inactive (ByAnswer does.old) does.waits
 
-  below : epoch_of w n i < e
+  pub below : epoch_of w n i < e
   below =
       let lt = (k.known.frozen n i (node_of f.peer) f.remote does.tunnel does.old (record { node = node; is = k.there; there = does.there }) does.answers does.waits link).0 in
       subst (λ q. epoch_of w n i < makes w n q) does.local lt
 
   -- ---- its account
 
-  abbrev new : Account
+  abbrev pub new : Account
   new = renewed (node_of m.peer) m.remote (record { node = d.node; tunnel = m.answer }) m.send_from m.expect
 
-  begins : Begins h (after h d) n i e new
+  pub begins : Begins h (after h d) n i e new
   begins =
       answering_begins h d m n e k.deed.move_is k.deed.node_is (k.epoch ∙ (ap (λ q. epoch_of q n i) moves_is ∙ epoch_now)) ok.epoch_some
       (not_entered w h k.holds n i e below)
 
-  answer : new.answer ≡ Some (record { node = n; tunnel = m.answer })
+  pub answer : new.answer ≡ Some (record { node = n; tunnel = m.answer })
   answer = ap (λ q. Some (record { node = q; tunnel = m.answer })) k.deed.node_is
 
-  peer : new.peer ≡ (h.accounts n i 0).peer
+  pub peer : new.peer ≡ (h.accounts n i 0).peer
   peer = ap node_of (does.peer ∙ live.peer) ∙ node_again (h.accounts n i 0).peer (k.holds.accounts n i 0).peer
 
-  remote : new.remote ≡ (h.accounts n i 0).remote
+  pub remote : new.remote ≡ (h.accounts n i 0).remote
   remote = does.remote ∙ sym (linked_knows h.accounts n i (node_of f.peer) f.remote does.tunnel.control.remote link (live.knows inactive))
 
   -- its other end entered the epoch by an answer of the same link
@@ -122,13 +122,13 @@ module _ (w : World) (h : History) (n : ℕ) (node : Node) (sender : Option Send
       by (AsGiver a b z g s t) = inr (a ∙ node_is, b ∙ id_is)
       by (AsPeer a b z g s t) = inl (sym (a ∙ back_peer), answered.2 ∙ sym (b ∙ back))
 
-  makes_as : (p c : ℕ) → makes v p c ≡ makes w p c
+  pub makes_as : (p c : ℕ) → makes v p c ≡ makes w p c
   makes_as = makes_then w n node k.there x i e
 
-  standings : (p j : ℕ) → ((p ≡ n) × (j ≡ i) → ⊥) → standing_of v p j ≡ standing_of w p j
+  pub standings : (p j : ℕ) → ((p ≡ n) × (j ≡ i) → ⊥) → standing_of v p j ≡ standing_of w p j
   standings = other_standing w n node k.there x i e
 
-  made_now : (standing_of v n i).made ≡ (standing_of w n i).made
+  pub made_now : (standing_of v n i).made ≡ (standing_of w n i).made
   made_now = ap (λ (s : Standing). s.made) (own_standing w n node k.there x i e)
 
   enough : e ≤ (standing_of w n i).made

@@ -39,50 +39,50 @@ use Rattle.channel_laws.proofs.Coming.{FromTunnel, OfNoTunnel, OfRecovery, heard
 use Rattle.channel_laws.proofs.Begun.{resets_hold}
 
 -- the answer that is taken
-record IsReplied (h : History) (n peer answer attempt send_from expect : ℕ) : Type 0 where
-  from : ℕ
-  from_fits : from < 256
-  address : peer ≡ address_of from
-  froze : Froze
-  there : h.answers from answer ≡ Some froze
-  goes : node_of froze.peer ≡ n
-  attempt_is : froze.attempt ≡ attempt
-  ours : froze.expect ≡ send_from
-  theirs : froze.send_from ≡ expect
+pub record IsReplied (h : History) (n peer answer attempt send_from expect : ℕ) : Type 0 where
+  pub from : ℕ
+  pub from_fits : from < 256
+  pub address : peer ≡ address_of from
+  pub froze : Froze
+  pub there : h.answers from answer ≡ Some froze
+  pub goes : node_of froze.peer ≡ n
+  pub attempt_is : froze.attempt ≡ attempt
+  pub ours : froze.expect ≡ send_from
+  pub theirs : froze.send_from ≡ expect
 
 module _ (codecs : Codecs) (again : WrittenIsRead) (room : WrittenHasRoom) (w : World) (h : History) (n : ℕ) (node : Node) (sender : Option Sender) (moment : ℕ) (ev : Event)
     (m : ResetAttempting) (x : End) (d : Deed) (k : IsMoved w h n node sender moment ev (move.ResetAttempting m) x d) where
-  does : ResetsAttempting node.end moment ev m x
+  abbrev pub does : ResetsAttempting node.end moment ev m x
   does = k.does
 
-  abbrev i : ℕ
+  abbrev pub i : ℕ
   i = m.tunnel
 
-  abbrev other : ℕ
+  abbrev pub other : ℕ
   other = node_of m.peer
 
-  abbrev e : ℕ
+  abbrev pub e : ℕ
   e = makes w other m.answer
 
-  abbrev v : World
+  abbrev pub v : World
   v = world_then w n node k.there x i e
 
-  moves_is : moves_on w n node (move.ResetAttempting m) x ≡ v
+  pub moves_is : moves_on w n node (move.ResetAttempting m) x ≡ v
   unfolding moved
   moves_is = ap (λ q. enters_epoch (with_end w n node x) n m.tunnel q) (base_makes w n node k.there x (node_of m.peer) m.answer) ∙ enters_is w n node k.there x m.tunnel e
 
-  epoch_now : epoch_of v n i ≡ e
+  pub epoch_now : epoch_of v n i ≡ e
   epoch_now = ap (λ (s : Standing). s.epoch) (own_standing w n node k.there x i e)
 
   both_ok : EndOk w h n node.end × BookOk h n node.checkpoint.book
   both_ok = subst (NodeOk w h n) k.there (k.holds.nodes n)
 
-  live : LiveOk w h n i does.tunnel
+  pub live : LiveOk w h n i does.tunnel
   live = both_ok.0.live i does.tunnel does.there
 
   -- ---- its attempt, and the answer to it
 
-  tried : IsRecovered w h n i (ByAttempt does.old)
+  pub tried : IsRecovered w h n i (ByAttempt does.old)
   tried = live.recovery (ByAttempt does.old) does.attempts
 
   tried_ok : AttemptOk h n does.old.local tried.0.0
@@ -130,7 +130,7 @@ module _ (codecs : Codecs) (again : WrittenIsRead) (room : WrittenHasRoom) (w : 
       let two = sym none ∙ tried.0.1 in
       cc
 
-  replied : IsReplied h n m.peer m.answer does.old.local m.send_from m.expect
+  pub replied : IsReplied h n m.peer m.answer does.old.local m.send_from m.expect
   replied = ⊎_elim
       (λ f. absurd (not_from_tunnel f))
       (λ r. ⊎_elim
@@ -145,49 +145,49 @@ module _ (codecs : Codecs) (again : WrittenIsRead) (room : WrittenHasRoom) (w : 
       f.says) r)
       (heard w h k.holds codecs again room n node.end sender ev k.comes does.letter does.comes.came)
 
-  abbrev f : Froze
+  abbrev pub f : Froze
   f = replied.froze
 
   other_is : other ≡ replied.from
   other_is = ap node_of replied.address ∙ node_again replied.from replied.from_fits
 
-  is : h.answers other m.answer ≡ Some f
+  pub is : h.answers other m.answer ≡ Some f
   is = ap (λ q. h.answers q m.answer) other_is ∙ replied.there
 
-  ok : AnswerOk w h other m.answer f
+  pub ok : AnswerOk w h other m.answer f
   ok = k.holds.answers other m.answer f is
 
   -- it is to an attempt at this tunnel
-  remote_here : f.remote ≡ i
+  pub remote_here : f.remote ≡ i
   remote_here =
       let both = sym ok.attempted ∙ (ap₂ h.attempts replied.goes replied.attempt_is ∙ tried.0.1) in
       let same : ok.attempt ≡ tried.0.0 = cc in
       sym ok.attempts ∙ (ap (λ (r : Restored). r.tunnel.local) same ∙ tried.0.2)
 
-  link : AreLinked h.accounts n i other f.tunnel
+  pub link : AreLinked h.accounts n i other f.tunnel
   link = subst (λ q. AreLinked h.accounts n q other f.tunnel) remote_here
       (subst (λ q. AreLinked h.accounts q f.remote other f.tunnel) replied.goes (linked_back h.accounts other f.tunnel (node_of f.peer) f.remote ok.linked))
 
-  inactive : is_current (mode_of does.tunnel.recovery) ≡ false
+  pub inactive : is_current (mode_of does.tunnel.recovery) ≡ false
   inactive = ap (λ r. is_current (mode_of r)) does.attempts ∙ waits_inactive (ByAttempt does.old) does.waits
 
-  below : epoch_of w n i < e
+  pub below : epoch_of w n i < e
   below = (k.known.attempted n i does.tunnel does.old (record { node = node; is = k.there; there = does.there }) does.attempts does.waits other m.answer f is replied.goes replied.attempt_is).0
 
   -- ---- its account
 
-  abbrev new : Account
+  abbrev pub new : Account
   new = renewed (node_of m.peer) m.remote (record { node = node_of m.peer; tunnel = m.answer }) m.send_from m.expect
 
-  begins : Begins h (after h d) n i e new
+  pub begins : Begins h (after h d) n i e new
   begins =
       attempting_begins h d m n e k.deed.move_is k.deed.node_is (k.epoch ∙ (ap (λ q. epoch_of q n i) moves_is ∙ epoch_now)) ok.epoch_some
       (not_entered w h k.holds n i e below)
 
-  peer : new.peer ≡ (h.accounts n i 0).peer
+  pub peer : new.peer ≡ (h.accounts n i 0).peer
   peer = ap node_of (does.peer ∙ live.peer) ∙ node_again (h.accounts n i 0).peer (k.holds.accounts n i 0).peer
 
-  remote : new.remote ≡ (h.accounts n i 0).remote
+  pub remote : new.remote ≡ (h.accounts n i 0).remote
   remote = does.remote ∙ sym (linked_knows h.accounts n i other f.tunnel does.tunnel.control.remote link (live.knows inactive))
 
   -- its other end entered the epoch by an answer of the same link
@@ -208,13 +208,13 @@ module _ (codecs : Codecs) (again : WrittenIsRead) (room : WrittenHasRoom) (w : 
       by (AsGiver a b z g s t) = inl (sym (a ∙ node_is), sym (b ∙ id_is))
       by (AsPeer a b z g s t) = inr (a ∙ (back_peer ∙ sym replied.goes), b ∙ (back ∙ sym remote_here))
 
-  makes_as : (p c : ℕ) → makes v p c ≡ makes w p c
+  pub makes_as : (p c : ℕ) → makes v p c ≡ makes w p c
   makes_as = makes_then w n node k.there x i e
 
-  standings : (p j : ℕ) → ((p ≡ n) × (j ≡ i) → ⊥) → standing_of v p j ≡ standing_of w p j
+  pub standings : (p j : ℕ) → ((p ≡ n) × (j ≡ i) → ⊥) → standing_of v p j ≡ standing_of w p j
   standings = other_standing w n node k.there x i e
 
-  made_now : (standing_of v n i).made ≡ (standing_of w n i).made
+  pub made_now : (standing_of v n i).made ≡ (standing_of w n i).made
   made_now = ap (λ (s : Standing). s.made) (own_standing w n node k.there x i e)
 
   enough : e ≤ (standing_of w n i).made

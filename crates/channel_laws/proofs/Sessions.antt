@@ -46,7 +46,7 @@ all_wide ps h = all_so FitsPair FitsWide (λ p fit. (let a = fit.0 in omega (ari
 
 -- ---- the sessions of a tunnel
 
-abbrev IsFound : List (ℕ × Call) → ℕ × Call → Type 0
+abbrev pub IsFound : List (ℕ × Call) → ℕ × Call → Type 0
 IsFound calls x = at calls x.0 ≡ Some x.1
 
 found_later : (x : ℕ × Call) (calls rest : List (ℕ × Call)) → IsAbove x.0 rest → AllByRecursion (IsFound calls) rest
@@ -58,7 +58,7 @@ found_later x calls (y ∷ rest) above h =
     (at-cons x calls y.0 ∙ (rw (ne_eqb y.0 x.0 other) h.0), found_later x calls rest above.1 h.1)
 
 -- each call that stands in a table is found there
-all_found : (calls : List (ℕ × Call)) → Ascends calls → AllByRecursion (IsFound calls) calls
+pub all_found : (calls : List (ℕ × Call)) → Ascends calls → AllByRecursion (IsFound calls) calls
 unfolding Ascends
 all_found [] order = tt
 all_found (x ∷ calls) order =

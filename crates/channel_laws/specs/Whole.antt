@@ -8,6 +8,7 @@ use Rattle.end_model.specs.Secrets.{uncovered_event}
 use Rattle.end_model.specs.End.{End, Stepped, step}
 use Rattle.end_model.specs.Starting.{starts}
 use Rattle.world_model.specs.World.{World, Node, Sender, Deed, Lined, standing_of, block_of}
+use Rattle.step_laws.specs.Moves.{Chain}
 use Rattle.step_laws.specs.Steps.{IsOfNoStart}
 use Rattle.channel_laws.specs.Accounts.{History, after, history_from}
 use Rattle.channel_laws.specs.Facts.{makes, Holds, NodesHold}
@@ -150,3 +151,28 @@ LinesKeep =
     (w : World) (h : History) (number : ℕ) (x : Lined) (most : ℕ)
     → NodesHold w → Holds w h → Below h most → most + 147460 < 2 ^ 64 → LineDoes w number x
     → KnowsOfLine w h → Holds x.world (history_from x.done h) × Below (history_from x.done h) (most + 81919)
+
+-- ---- a part of the moves of a step
+
+-- where the first moves of a step lead: all holds there, and the node has the end of the chain, and still its checkpoint
+pub record PartLeads (w : World) (h : History) (n : ℕ) (old : Node) (sender : Option Sender) (moment : ℕ) (ev : Event) (made : List Move)
+    : Type 0 where
+  pub world : World
+  pub history : History
+  pub leads : Leads n sender moment ev w h made world history
+  pub holds : Holds world history
+  pub node : Node
+  pub there : at world.nodes n ≡ Some node
+  pub comes : Chain moment ev old.end made node.end
+  pub checkpoint : node.checkpoint ≡ old.checkpoint
+  pub others : (q : ℕ) → (q ≡ n → ⊥) → SameLook (at w.nodes q) (at world.nodes q)
+
+-- so it is of a step that a stop cuts off, whichever its records are that are left
+abbrev pub PartsLead : Type 0
+PartsLead =
+    (w : World) (h : History) (number : ℕ) (x : Lined) (s : CutStep w number x) (most : ℕ)
+    → NodesHold w → Holds w h → Below h most → most + 147460 < 2 ^ 64 → s.old.up ≡ true → (event : Event) (sender : Option Sender)
+    → ComesIn w s.node s.old event sender → s.stepped ≡ step s.found.end s.found.clock (block_of s.node number) event
+    → KnowsFrom w h s.node sender s.found.clock (uncovered_event s.found.end.config.secret event)
+    → (made rest : List Move) → s.stepped.moves ≡ made ++ rest
+    → PartLeads w h s.node s.old sender s.found.clock (uncovered_event s.found.end.config.secret event) made

@@ -13,7 +13,7 @@ ghost use Rattle.book_laws.specs.Starts.{StartsAreBooked};
 ghost use Rattle.step_laws.specs.Starts.{StartsAreChains, StartsAreOfBooks};
 ghost use Rattle.step_laws.specs.Steps.{StepsAreChains, StepsAreNoStarts};
 ghost use Rattle.step_laws.specs.Ups.{ReadsAreFew};
-ghost use Rattle.channel_laws.specs.Whole.{CutStepsKeep, LinesKeep, StartsKeep, WholeStepsKeep};
+ghost use Rattle.channel_laws.specs.Whole.{CutStepsKeep, LinesKeep, PartsLead, StartsKeep, WholeStepsKeep};
 
 /// The laws that are used.
 fn laws_below()
@@ -159,6 +159,21 @@ pub fn cut_steps_keep()
     laws_below();
     laws_of_steps();
     laws_of_starts();
+    still_moves_keep();
+    recoveries_keep();
+    giving_moves_keep();
+    opening_moves_keep();
+    taking_moves_keep();
+    beginning_moves_keep();
+}
+
+/// The first moves of a step that a stop cuts off, however many, lead to a world in which all holds of channels over crashes: each is made
+/// where those before it lead, and the node has still the checkpoint that it had before.
+pub fn parts_of_steps_lead()
+    ensures { PartsLead }
+{
+    laws_below();
+    laws_of_steps();
     still_moves_keep();
     recoveries_keep();
     giving_moves_keep();

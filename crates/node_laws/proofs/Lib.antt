@@ -1,3 +1,3 @@
 mod Books
-mod Nodes
-mod Runs
+pub mod Nodes
+pub mod Runs

@@ -18,7 +18,7 @@ use Rattle.epoch_machine.specs.Letters.{Fsr}
 use Rattle.epoch_machine.specs.Worlds as machine
 use Rattle.epoch_machine.specs.Calls as calls
 use Rattle.epoch_machine.specs.Calls.{stands_with}
-use Rattle.birth_laws.specs.Births.{BirthsOfRuns}
+use Rattle.birth_laws.specs.Births.{BirthsOfRuns, CallsHold}
 use Rattle.coverage_laws.specs.Coverage.{CoverageOfRuns}
 use Rattle.session_laws.specs.Names.{name, name_of, state_of}
 use Rattle.channel_laws.specs.Accounts.{History}
@@ -97,41 +97,33 @@ same_up call.WaitReply = refl
 same_up call.WaitConnect = refl
 same_up call.Established = refl
 
-module _ (w : World) (h : History) (m : machine.World) (g : Ground w h m) (n i : ℕ) (t : Tunnel) (is : IsLive w n i t) where
-  abbrev peer : ℕ
-  peer = (h.accounts n i 0).peer
+-- the calls of a tunnel that goes to a peer are the machine's; `fits` says of which ids it is known that there is none by them
+pub record TunnelCalls (fits : ℕ → Type 0) (m : machine.World) (n i peer : ℕ) (t : Tunnel) : Type 0 where
+  pub known : CallsHold m.tunnels m.calls
+  pub order : Ascends t.calls
+  pub live : (r : ℕ) (c : Call) → at t.calls r ≡ Some c → CallJoined m n i peer r c
+  pub gone : (r : ℕ) → fits r → at t.calls r ≡ None → m.calls.tunnel (name n r) ≡ name n i → calls.is_up (m.calls.state (name n r)) ≡ false
 
-  end_ok : EndOk w h n is.node.end
-  end_ok = (let k : EndOk w h n is.node.end × BookOk h n is.node.checkpoint.book = subst (NodeOk w h n) is.is (g.holds.nodes n) in k.0)
-
-  made : IsMade (h.accounts n i 0)
-  made = (end_ok.live i t is.there).made
-
-  calls_are : CallsJoined m h n is.node
-  calls_are =
-      let c : NodeJoined m h n (Some is.node) = subst (NodeJoined m h n) is.is (g.joined.nodes n ((g.holds.accounts n i 0).node made)) in
-      c.1
-
+module _ (fits : ℕ → Type 0) (m : machine.World) (n i peer : ℕ) (t : Tunnel) (g : TunnelCalls fits m n i peer t) where
   -- a call that isn't established doesn't stand
   not_up : (z own : ℕ) → calls.is_up (m.calls.state z) ≡ false → stands_with m.calls (name n i) z own ≡ false
   not_up z own down =
       ap (λ b. (m.calls.tunnel z == name n i) && (b && (m.calls.remote z == own))) down ∙ false_behind (m.calls.tunnel z == name n i)
 
-  none_stands : (r own : ℕ) → r < 65536 → at t.calls r ≡ None → stands_with m.calls (name n i) (name n r) own ≡ false
+  none_stands : (r own : ℕ) → fits r → at t.calls r ≡ None → stands_with m.calls (name n i) (name n r) own ≡ false
   none_stands r own fits none = by (m.calls.tunnel (name n r) == name n i) refl
     where
       by : (b : Bool) → (m.calls.tunnel (name n r) == name n i) ≡ b → stands_with m.calls (name n i) (name n r) own ≡ false
       by false other = ap (λ b. b && (calls.is_up (m.calls.state (name n r)) && (m.calls.remote (name n r) == own))) other
       by true its =
-          not_up (name n r) own (ap calls.is_up (calls_are.gone r fits
-          (no_other w h m g n i t is calls_are ((g.holds.accounts n i 0).id made) r none (eqb-true _ _ its))))
+          not_up (name n r) own (g.gone r fits none (eqb-true _ _ its))
 
   call_stands : (r s : ℕ) (c : Call) → at t.calls r ≡ Some c
       → stands_with m.calls (name n i) (name n r) (name peer s) ≡ (is_up c.state && c.remote == s)
   call_stands r s c there = by (is_up c.state) refl
     where
       j : CallJoined m n i peer r c
-      j = calls_are.live i t is.there r c there
+      j = g.live r c there
 
       up_is : calls.is_up (m.calls.state (name n r)) ≡ is_up c.state
       up_is = ap calls.is_up j.state ∙ same_up c.state
@@ -148,7 +140,7 @@ module _ (w : World) (h : History) (m : machine.World) (g : Ground w h m) (n i :
           ∙ (ap (λ b. b && (m.calls.remote (name n r) == name peer s)) (up_is ∙ up)
           ∙ (ap (λ q. q == name peer s) (j.remote ∙ known_name peer c.remote remote_some) ∙ names_same peer c.remote s))
 
-  pub session_stands : (r s : ℕ) → r < 65536 → stands_with m.calls (name n i) (name n r) (name peer s) ≡ has_remote s (at t.calls r)
+  pub session_stands : (r s : ℕ) → fits r → stands_with m.calls (name n i) (name n r) (name peer s) ≡ has_remote s (at t.calls r)
   session_stands r s fits = by (at t.calls r) refl
     where
       by : (o : Option Call) → at t.calls r ≡ o → stands_with m.calls (name n i) (name n r) (name peer s) ≡ has_remote s o
@@ -159,7 +151,7 @@ module _ (w : World) (h : History) (m : machine.World) (g : Ground w h m) (n i :
   zero_stands : (own : ℕ) → stands_with m.calls (name n i) 0 own ≡ false
   zero_stands own = not_up 0 own (ap calls.is_up (g.known.nameless 0 g.known.zero).state)
 
-  says_so : (p : Pair) → p.receiver < 65536 → stands_with m.calls (name n i) (name_of n p.receiver) (name peer p.sender)
+  says_so : (p : Pair) → fits p.receiver → stands_with m.calls (name n i) (name_of n p.receiver) (name peer p.sender)
       ≡ not ((answer_to (sessions_of t.calls) p).sender == 0)
   says_so p fits = ⊎_elim
       (λ (none : p.receiver ≡ 0).
@@ -169,7 +161,7 @@ module _ (w : World) (h : History) (m : machine.World) (g : Ground w h m) (n i :
       (λ (some : p.receiver ≡ 0 → ⊥).
       ap (λ z. stands_with m.calls (name n i) z (name peer p.sender)) (known_name n p.receiver (some_number p.receiver some))
       ∙ (session_stands p.receiver p.sender fits
-      ∙ (sym (here_is t.calls p ((ups w h m g n i t is).kept.tunnels i t is.there).calls) ∙ sym
+      ∙ (sym (here_is t.calls p g.order) ∙ sym
       (something some (is_here (sessions_of t.calls) p)))))
       (same_or_not p.receiver 0)
     where
@@ -181,12 +173,34 @@ module _ (w : World) (h : History) (m : machine.World) (g : Ground w h m) (n i :
       something some true = ap not (ne_eqb p.receiver 0 some)
       something some false = refl
 
-  all_so : (pairs : List Pair) → AllByRecursion (λ (p : Pair). p.receiver < 65536) pairs
+  pub all_so : (pairs : List Pair) → AllByRecursion (λ (p : Pair). fits p.receiver) pairs
       → answers m.calls (name n i) (map (λ p. asked_for n peer p) pairs) ≡ answers_in n peer pairs (answers_to (sessions_of t.calls) pairs)
   all_so [] fit = refl
   all_so (p ∷ ps) fit =
       ap₂ (λ b ls. Fsr (name_of n p.receiver) (name peer p.sender) b ∷ ls) (says_so p fit.0) (all_so ps fit.1)
 
+-- so they are in a world that is joined
+pub tunnel_calls : (w : World) (h : History) (m : machine.World) → Ground w h m → (n i : ℕ) (t : Tunnel) → IsLive w n i t
+    → TunnelCalls (λ r. r < 65536) m n i (h.accounts n i 0).peer t
+tunnel_calls w h m g n i t is = record {
+  known = g.known;
+  order = ((ups w h m g n i t is).kept.tunnels i t is.there).calls;
+  live = λ r c there. calls_are.live i t is.there r c there;
+  gone = λ r fits none its.
+      ap calls.is_up (calls_are.gone r fits (no_other w h m g n i t is calls_are ((g.holds.accounts n i 0).id made) r none its));
+}
+  where
+    made : IsMade (h.accounts n i 0)
+    made =
+        let k : EndOk w h n is.node.end × BookOk h n is.node.checkpoint.book = subst (NodeOk w h n) is.is (g.holds.nodes n) in
+        (k.0.live i t is.there).made
+
+    calls_are : CallsJoined m h n is.node
+    calls_are =
+        let c : NodeJoined m h n (Some is.node) = subst (NodeJoined m h n) is.is (g.joined.nodes n ((g.holds.accounts n i 0).node made)) in
+        c.1
+
 pub joined_worlds_answer : BirthsOfRuns → CoverageOfRuns → JoinedWorldsAnswer
 joined_worlds_answer births coverage w h m nodes holds joined n i t is pairs fit =
-    all_so w h m (ground_of births coverage w h m nodes holds joined) n i t is pairs fit
+    all_so (λ r. r < 65536) m n i (h.accounts n i 0).peer t
+    (tunnel_calls w h m (ground_of births coverage w h m nodes holds joined) n i t is) pairs fit

@@ -42,7 +42,7 @@ module _ {X : Type 0} where
   here : (f : ℕ → ℕ → X) (x e : ℕ) (v : X) → assign f x (assign (f x) e v) x e ≡ v
   here f x e v = ap (λ b. (if b then assign (f x) e v else f x) e) (eq-eqb x x refl) ∙ now (f x) e v
 
-gave_one : (w : World) (x : ℕ) (l : Letter) → GoesOn w (gives w x l) x (w.tunnels.entered x) (l ∷ []) 0
+pub gave_one : (w : World) (x : ℕ) (l : Letter) → GoesOn w (gives w x l) x (w.tunnels.entered x) (l ∷ []) 0
 unfolding gives puts
 gave_one w x l = record {
   tunnels = refl;
@@ -53,7 +53,7 @@ gave_one w x l = record {
   others_taken = λ y d other. refl;
 }
 
-took_it : (w : World) (x : ℕ) → GoesOn w (took_one w x) x (w.tunnels.entered x) [] 1
+pub took_it : (w : World) (x : ℕ) → GoesOn w (took_one w x) x (w.tunnels.entered x) [] 1
 unfolding took_one counts
 took_it w x = record {
   tunnels = refl;
@@ -64,7 +64,7 @@ took_it w x = record {
   others_taken = λ y d other. apart w.channels.taken x (w.tunnels.entered x) _ y d other;
 }
 
-none : (w v : World) (x e : ℕ) → v.tunnels ≡ w.tunnels → v.channels ≡ w.channels → GoesOn w v x e [] 0
+pub none : (w v : World) (x e : ℕ) → v.tunnels ≡ w.tunnels → v.channels ≡ w.channels → GoesOn w v x e [] 0
 none w v x e tunnels channels = record {
   tunnels = tunnels;
   refused = ap (λ (c : Rattle.epoch_machine.specs.Channels.Channels). c.refused) channels;
@@ -74,7 +74,7 @@ none w v x e tunnels channels = record {
   others_taken = λ y d other. ap (λ (c : Rattle.epoch_machine.specs.Channels.Channels). c.taken y d) channels;
 }
 
-more : (w u v : World) (x e : ℕ) (ls ms : List Letter) (a b : ℕ) → GoesOn w u x e ls a → GoesOn u v x e ms b
+pub more : (w u v : World) (x e : ℕ) (ls ms : List Letter) (a b : ℕ) → GoesOn w u x e ls a → GoesOn u v x e ms b
     → GoesOn w v x e (ls ++ ms) (a + b)
 more w u v x e ls ms a b p q = record {
   tunnels = q.tunnels ∙ p.tunnels;
@@ -101,7 +101,7 @@ asks_one r w x q open_is asks held =
     ap (λ p. if is_open p && w.calls.asks x q.own then queries w x q.own else w) open_is
     ∙ (ap (λ b. if b then queries w x q.own else w) asks ∙ ap (λ y. gives w x (Fsq q.own y)) held)
 
-gave_calls : (w : World) (x : ℕ) (l : Letter) → ((gives w x l).calls ≡ w.calls) × ((gives w x l).tunnels ≡ w.tunnels)
+pub gave_calls : (w : World) (x : ℕ) (l : Letter) → ((gives w x l).calls ≡ w.calls) × ((gives w x l).tunnels ≡ w.tunnels)
 unfolding gives
 gave_calls w x l = (refl, refl)
 
@@ -155,7 +155,7 @@ both_true a b x y = ap (λ c. c && b) x ∙ y
 either_true : (a b : Bool) → a ≡ true → (a || b) ≡ true
 either_true a b x = ap (λ c. c || b) x
 
-may_take_it : (w : World) (x s e place : ℕ) (l : Letter) → TakesFrom w x s e place → may_take all_rules w x s e place l ≡ true
+pub may_take_it : (w : World) (x s e place : ℕ) (l : Letter) → TakesFrom w x s e place → may_take all_rules w x s e place l ≡ true
 unfolding may_take
 may_take_it w x s e place l t =
     both_true _ _ (ap is_active t.open_is)
@@ -163,12 +163,12 @@ may_take_it w x s e place l t =
     (both_true _ _ (le-leb (w.tunnels.entered x) e (let same = t.entered in omega (arith, same)))
     (eq-eqb place (w.channels.taken x (w.tunnels.entered x)) (sym (ap (w.channels.taken x) t.entered ∙ t.next)))))
 
-took_calls : (w : World) (x : ℕ) → ((took_one w x).calls ≡ w.calls) × ((took_one w x).tunnels ≡ w.tunnels)
+pub took_calls : (w : World) (x : ℕ) → ((took_one w x).calls ≡ w.calls) × ((took_one w x).tunnels ≡ w.tunnels)
 unfolding took_one
 took_calls w x = (refl, refl)
 
 -- what comes next, behind one that was taken
-later_from : (w u : World) (x s e place : ℕ) (ls : List Letter) → TakesFrom w x s e place → GoesOn w u x e ls 1
+pub later_from : (w u : World) (x s e place : ℕ) (ls : List Letter) → TakesFrom w x s e place → GoesOn w u x e ls 1
     → TakesFrom u x s e (suc place)
 later_from w u x s e place ls t g = record {
   open_is = ap (λ (t : Rattle.epoch_machine.specs.Tunnels.Tunnels). t.phase x) g.tunnels ∙ t.open_is;
@@ -196,7 +196,7 @@ answers_one w x s e place q t is =
     ∙ (ap (λ b. if b then takes all_rules (took_one w x) x s (Fsq q.own q.other) 0 else w) (may_take_it w x s e place (Fsq q.own q.other) t)
     ∙ ap (λ p. if is_open p then takes_open all_rules (took_one w x) x (Fsq q.own q.other) 0 else took_one w x) t.open_is)
 
-answered_one : (w : World) (x s e place : ℕ) (l : Letter) → TakesFrom w x s e place → GoesOn w (gives (took_one w x) x l) x e (l ∷ []) 1
+pub answered_one : (w : World) (x s e place : ℕ) (l : Letter) → TakesFrom w x s e place → GoesOn w (gives (took_one w x) x l) x e (l ∷ []) 1
 answered_one w x s e place l t =
     more w (took_one w x) (gives (took_one w x) x l) x e [] (l ∷ []) 1 0
     (subst (λ d. GoesOn w (took_one w x) x d [] 1) t.entered (took_it w x))
@@ -243,7 +243,7 @@ hears_one w x s e place a t is =
     by true = refl
     by false = refl
 
-heard_one : (w : World) (x s e place : ℕ) (c : Calls) → TakesFrom w x s e place → GoesOn w (record (took_one w x) { calls = c }) x e [] 1
+pub heard_one : (w : World) (x s e place : ℕ) (c : Calls) → TakesFrom w x s e place → GoesOn w (record (took_one w x) { calls = c }) x e [] 1
 heard_one w x s e place c t =
     more w (took_one w x) (record (took_one w x) { calls = c }) x e [] [] 1 0
     (subst (λ d. GoesOn w (took_one w x) x d [] 1) t.entered (took_it w x))

@@ -1,5 +1,5 @@
 -- What the channels need to know of epochs follows from the machine's laws, where the world is joined with the machine.
-use Rattle.std.proofs.Common.{◌≡◌, ◌⊎◌, inl, inr, ⊎_elim, ℕ, ◌<◌, ◌≤◌, Bool, true, false, List, refl, sym, ap, ap₂, ◌∙◌, subst, Option, Some, None, arith}
+use Rattle.std.proofs.Common.{◌≡◌, ◌⊎◌, inl, inr, ⊎_elim, ℕ, ◌<◌, ◌≤◌, Bool, true, false, List, [], refl, sym, ap, ap₂, ◌∙◌, subst, Option, Some, None, arith}
 use Rattle.std.proofs.lemmas.Bool.{true≢false, eqb-true, cases_Bool}
 use Rattle.std.proofs.lemmas.Option.{none-some}
 use Rattle.std.specs.Prelude.{◌≢◌, ◌==◌, ◌&&◌, not, is_some, is_none, if◌then◌else◌}
@@ -20,8 +20,9 @@ use Rattle.epoch_laws.specs.Epochs.{EpochsHold}
 use Rattle.epoch_laws.specs.Answers.{AnswersHold, AnswersOfRuns}
 use Rattle.epoch_machine.specs.Moves.{Move, goes_on}
 use Rattle.session_laws.specs.Names.{name, name_of, phase_of}
-use Rattle.channel_laws.specs.Accounts.{Part, Unmade, Opener, Acceptor, Renewed, History}
-use Rattle.channel_laws.specs.Facts.{Accounts, IsMade, AreLinked, makes, AnswerOk, IsRecovered, LiveOk, EndOk, BookOk, NodeOk, NodesHold, Holds}
+use Rattle.channel_laws.specs.Accounts.{Part, Unmade, Opener, Acceptor, Renewed, Account, History}
+use Rattle.connection_laws.specs.Facts.{AllWait}
+use Rattle.channel_laws.specs.Facts.{Accounts, IsMade, IsOpen, IsShut, IsInState, AreLinked, makes, AnswerOk, IsRecovered, LiveOk, EndOk, BookOk, NodeOk, NodesHold, Holds, partner_in}
 use Rattle.channel_laws.specs.Epochs.{IsLive, OfOneLink, EpochsKnown}
 use Rattle.channel_laws.specs.Heard.{NoneIsOfAnother}
 use Rattle.epoch_machine.specs.Worlds.{Rules, all_rules}
@@ -92,7 +93,30 @@ not_reset c h = by c.reset h
     by None h = refl
     by (Some x) h = absurd (true≢false (sym h))
 
-module _ (w : World) (h : History) (nodes : NodesHold w) (holds : Holds w h) (m : machine.World) (joined : AreJoined w h m) (epochs : EpochsHold m.tunnels) (closed : ClosedHold m.tunnels) (answers : AnswersHold m.tunnels) where
+-- ---- states
+
+-- a tunnel that is neither frozen nor restored isn't idle
+not_idle : (accs : Accounts) (i e : ℕ) (a : Account) (t : Tunnel) (p : Part) → IsInState accs i e a t p → 1 ≤ state_number t.control.state
+not_idle accs i e a t Unmade s = absurd s
+not_idle accs i e a t Opener s = ⊎_elim
+    (λ (q : (state_number t.control.state ≡ 1) × (a.remote ≡ 0) × IsOpen a × AllWait t.calls). let one = q.0 in omega (arith, one))
+    (λ k. ⊎_elim
+    (λ (q : (state_number t.control.state ≡ 3) × (a.remote ≡ 0 → ⊥) × IsOpen a). let three = q.0 in omega (arith, three))
+    (λ (q : IsShut a t). let four = q.0 in omega (arith, four)) k)
+    s
+not_idle accs i e a t Acceptor s = ⊎_elim
+    (λ (q : (state_number t.control.state ≡ 2) × (t.calls ≡ []) × IsOpen a). let two = q.0 in omega (arith, two))
+    (λ k. ⊎_elim
+    (λ (q : (state_number t.control.state ≡ 3) × ((partner_in accs 0 a).remote ≡ i) × IsOpen a). let three = q.0 in omega (arith, three))
+    (λ (q : IsShut a t). let four = q.0 in omega (arith, four)) k)
+    s
+not_idle accs i e a t Renewed s = ⊎_elim
+    (λ (q : (state_number t.control.state ≡ 3) × IsOpen a). let three = q.0 in omega (arith, three))
+    (λ (q : IsShut a t). let four = q.0 in omega (arith, four))
+    s
+
+module _ (w : World) (h : History) (holds : Holds w h) (m : machine.World) (joined : AreJoined w h m) (epochs : EpochsHold m.tunnels)
+    (closed : ClosedHold m.tunnels) (answers : AnswersHold m.tunnels) where
   -- a tunnel that was made has a node and an id of so many bits
   module _ (n i : ℕ) (made : IsMade (h.accounts n i 0)) where
     node_fits : n < 256
@@ -228,16 +252,16 @@ module _ (w : World) (h : History) (nodes : NodesHold w) (holds : Holds w h) (m 
       same_name k a l b (answer_ok k a f is).fits (answer_ok l b g so).fits (answers.once (name k a) (name l b) (was_given k a f is) (was_given l b g so) ends epochs_same)
 
   -- a live tunnel isn't idle
-  busy : (n i : ℕ) (t : Tunnel) → IsLive w n i t → t.control.state ≡ tunnel.Idle → ⊥
-  busy n i t is idle = ⊎_elim
-      (λ (e : is.node.up ≡ true). (((nodes n is.node is.is).up e).kept.tunnels i t is.there).busy (ap state_number idle))
-      (λ (e : is.node.up ≡ false).
-      absurd (none-some t (sym (at-none i) ∙ (ap (λ (x : End). at x.tunnels i) (sym ((nodes n is.node is.is).down e)) ∙ is.there))))
-      (cases_Bool is.node.up)
+  busy : (n i : ℕ) (t : Tunnel) → IsLive w n i t → is_current (mode_of t.recovery) ≡ true → t.control.state ≡ tunnel.Idle → ⊥
+  busy n i t is current idle =
+      let e = epoch_of w n i in
+      let some = not_idle h.accounts i e (h.accounts n i e) t (h.accounts n i e).part ((live_ok n i t is).channel current).state in
+      let none = ap state_number idle in
+      omega (arith, some, none)
 
   pub epochs_known : EpochsKnown w h
   epochs_known = record {
-    above = λ n i k j t is current l. above n i t is k j current (busy n i t is) l;
+    above = λ n i k j t is current l. above n i t is k j current (busy n i t is current) l;
     one = one;
     attempted = λ n i t c is has waits k a f answered back attempt. attempted n i t is c has waits k a f answered back attempt;
     frozen = λ n i k j t a is has waits l. frozen n i t is k j a has waits l;
@@ -248,21 +272,21 @@ module _ (w : World) (h : History) (nodes : NodesHold w) (holds : Holds w h) (m 
 
 -- ---- what follows
 
-module _ (w : World) (h : History) (nodes : NodesHold w) (holds : Holds w h) (m : machine.World) (joined : AreJoined w h m) where
+module _ (w : World) (h : History) (holds : Holds w h) (m : machine.World) (joined : AreJoined w h m) where
   pub known_so : ((r : Rules) (ms : List Move) → AnswersHold (goes_on r machine.empty_world ms).tunnels) → EpochsKnown w h
   known_so answers =
-      epochs_known w h nodes holds m joined (subst (λ (v : machine.World). EpochsHold v.tunnels) (sym joined.run) (holds_after all_rules joined.moves))
+      epochs_known w h holds m joined (subst (λ (v : machine.World). EpochsHold v.tunnels) (sym joined.run) (holds_after all_rules joined.moves))
       (subst (λ (v : machine.World). ClosedHold v.tunnels) (sym joined.run) (closed_after all_rules joined.moves))
       (subst (λ (v : machine.World). AnswersHold v.tunnels) (sym joined.run) (answers all_rules joined.moves))
 
 pub joined_worlds_know : AnswersOfRuns → JoinedWorldsKnow
 joined_worlds_know answers w h m nodes holds joined = record {
-  known = known_so w h nodes holds m joined answers.hold;
-  lower = λ n i k j t l below is current. (let le = (known_so w h nodes holds m joined answers.hold).above n i k j t is current l in let no : ⊥ = omega (arith, le, below) in no);
+  known = known_so w h holds m joined answers.hold;
+  lower = λ n i k j t l below is current. (let le = (known_so w h holds m joined answers.hold).above n i k j t is current l in let no : ⊥ = omega (arith, le, below) in no);
 }
 
 pub letters_of_joined : AnswersOfRuns → NoneIsOfAnother → LettersOfJoined
-letters_of_joined answers letters w h m nodes holds joined = letters w h holds (known_so w h nodes holds m joined answers.hold)
+letters_of_joined answers letters w h m nodes holds joined = letters w h holds (known_so w h holds m joined answers.hold)
 
 pub closed_of_runs : ClosedOfRuns
 closed_of_runs r moves = closed_after r moves

@@ -8,19 +8,16 @@ use Rattle.wire_base.specs.declared.pair.Pair.{Pair}
 use Rattle.session_query.specs.Queries.{gone_if, gone_in}
 use Rattle.end_model.specs.Querying.{stands, ended_of}
 use Rattle.end_model.specs.Tunnels.{Tunnel}
-use Rattle.world_model.specs.World.{World}
 use Rattle.epoch_machine.specs.Worlds as machine
 use Rattle.birth_laws.specs.Births.{BirthsOfRuns}
 use Rattle.coverage_laws.specs.Coverage.{CoverageOfRuns}
 use Rattle.session_laws.specs.Names.{name}
-use Rattle.channel_laws.specs.Accounts.{History}
-use Rattle.channel_laws.specs.Epochs.{IsLive}
 use Rattle.epoch_machine.specs.Names.{assign}
 use Rattle.epoch_machine.specs.Calls.{Calls, CallState, NoCall, is_up, ends, is_call, is_told, stands_with}
 use Rattle.recovery_laws.specs.Asking.{Told, told_one, told_all}
 use Rattle.recovery_laws.specs.Hearing.{EndsCalls, told_for, JoinedWorldsHear}
-use Rattle.recovery_laws.proofs.Answers.{session_stands}
-use Rattle.recovery_laws.proofs.Pairs.{Ground, ground_of}
+use Rattle.recovery_laws.proofs.Answers.{TunnelCalls, tunnel_calls, session_stands}
+use Rattle.recovery_laws.proofs.Pairs.{ground_of}
 
 -- whether an answer ends the call that it is about
 abbrev ends_it : Calls → ℕ → Told → Bool
@@ -173,11 +170,8 @@ all_end c x (a ∷ rest) =
 
 -- ---- what an end ends
 
-module _ (w : World) (h : History) (m : machine.World) (g : Ground w h m) (n i : ℕ) (t : Tunnel) (is : IsLive w n i t) where
-  abbrev peer : ℕ
-  peer = (h.accounts n i 0).peer
-
-  ends_same : (z : ℕ) (asked answers : List Pair) → AllByRecursion (λ (p : Pair). p.sender < 65536) asked
+module _ (fits : ℕ → Type 0) (m : machine.World) (n i peer : ℕ) (t : Tunnel) (g : TunnelCalls fits m n i peer t) where
+  ends_same : (z : ℕ) (asked answers : List Pair) → AllByRecursion (λ (p : Pair). fits p.sender) asked
       → list_any (ends_this m.calls (name n i) z) (told_for n peer asked answers)
       ≡ list_any (λ s. name n s == z) (ended_of t.calls (gone_in asked answers))
   unfolding ended_of
@@ -186,7 +180,7 @@ module _ (w : World) (h : History) (m : machine.World) (g : Ground w h m) (n i :
   ends_same z (q ∷ qs) (a ∷ later) fit =
       ap (λ b. ((name n q.sender == z) && (not (not (a.sender == 0)) && b)) || list_any (ends_this m.calls (name n i) z)
       (told_for n peer qs later))
-      (session_stands w h m g n i t is q.sender q.receiver fit.0)
+      (session_stands fits m n i peer t g q.sender q.receiver fit.0)
       ∙ (ap (λ b. ((name n q.sender == z) && (not (not (a.sender == 0)) && stands t.calls q)) || b) (ends_same z qs later fit.1)
       ∙ by (a.sender == 0))
     where
@@ -214,7 +208,7 @@ module _ (w : World) (h : History) (m : machine.World) (g : Ground w h m) (n i :
       by true = here (stands t.calls q) refl
       by false = ap (λ b. b || said others) (none (name n q.sender == z))
 
-  hears_so : (asked answers : List Pair) → AllByRecursion (λ (p : Pair). p.sender < 65536) asked
+  pub hears_so : (asked answers : List Pair) → AllByRecursion (λ (p : Pair). fits p.sender) asked
       → EndsCalls m.calls (told_all m.calls (name n i) (told_for n peer asked answers)) (name n i)
       (λ z. list_any (λ s. name n s == z) (ended_of t.calls (gone_in asked answers)))
       (λ z. list_any (λ (a : Told). a.call == z) (told_for n peer asked answers))
@@ -225,4 +219,6 @@ module _ (w : World) (h : History) (m : machine.World) (g : Ground w h m) (n i :
 
 pub joined_worlds_hear : BirthsOfRuns → CoverageOfRuns → JoinedWorldsHear
 joined_worlds_hear births coverage w h m nodes holds joined n i t is asked answers fit =
-    hears_so w h m (ground_of births coverage w h m nodes holds joined) n i t is asked answers fit
+    hears_so (λ r. r < 65536) m n i (h.accounts n i 0).peer t
+    (tunnel_calls w h m (ground_of births coverage w h m nodes holds joined) n i t is) asked answers
+    fit

@@ -31,7 +31,7 @@ as_many (q ∷ qs) (a ∷ rest) at is = by (agrees q a) is (as_many qs rest (at 
     by true is later = ap suc (later is)
     by false is later = absurd cc
 
-told_many : (q : Asking) (answers gone : List Pair) → told_in q answers ≡ Ok gone → length answers ≡ length (unanswered q)
+pub told_many : (q : Asking) (answers gone : List Pair) → told_in q answers ≡ Ok gone → length answers ≡ length (unanswered q)
 unfolding told_in
 told_many q answers gone is = by (q.asked == 0) is
   where
@@ -62,7 +62,7 @@ above_none n s z (p ∷ ps) is above =
     (λ same. (let twice = same_id n p.sender s (same ∙ sym is) in let lt = above.0 in let no : ⊥ = omega (arith, twice, lt) in no)))
     ∙ above_none n s z ps is above.1
 
-all_dropped : (P : Pair → Type 0) (k : ℕ) (ps : List Pair) → AllByRecursion P ps → AllByRecursion P (drop k ps)
+pub all_dropped : (P : Pair → Type 0) (k : ℕ) (ps : List Pair) → AllByRecursion P ps → AllByRecursion P (drop k ps)
 all_dropped P zero ps h = h
 all_dropped P (suc k) [] h = h
 all_dropped P (suc k) (p ∷ ps) h = all_dropped P k ps h.1

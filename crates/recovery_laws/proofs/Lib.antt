@@ -1,19 +1,19 @@
-mod Alike
-mod Nodes
+pub mod Alike
+pub mod Nodes
 mod Gone
-mod Established
+pub mod Established
 mod Marks
 mod Closed
-mod Epochs
-mod Crashes
-mod Joining
-mod Pairs
-mod Weights
-mod Same
-mod Covered
-mod Answered
-mod Asking
-mod Answers
-mod Hearing
-mod Growing
-mod Left
+pub mod Epochs
+pub mod Crashes
+pub mod Joining
+pub mod Pairs
+pub mod Weights
+pub mod Same
+pub mod Covered
+pub mod Answered
+pub mod Asking
+pub mod Answers
+pub mod Hearing
+pub mod Growing
+pub mod Left

@@ -45,7 +45,7 @@ mod Quiet
 mod QuietLines
 mod Events
 pub mod Steps
-mod Sound
+pub mod Sound
 mod Patience
 mod Behind
 mod Late

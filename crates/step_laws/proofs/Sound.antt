@@ -185,6 +185,17 @@ module _ (e : End) (whole : AreWhole e) where
   does_whole moment ev (move.RecoveryEnded i) x so h = puts x _ i _ h.after refl refl refl (whole.calls i h.tunnel h.there)
   does_whole moment ev (move.Ignored i) x so h = puts x _ i _ h.after refl refl refl (whole.calls i h.tunnel h.there)
 
+-- so one move keeps calls sound, of an end whose tables ascend
+pub sound_then : (e x : End) → e.session_ids.last < 65536 → Ascends e.tunnels → ((i : ℕ) (t : Tunnel) → at e.tunnels i ≡ Some t → Ascends t.calls)
+    → AreSound e → (moment : ℕ) (ev : Event) (m : Move) → IsOfNoStart m → Does e moment ev m x → AreSound x
+sound_then e x last order calls sound moment ev m so does =
+    let whole : AreWhole e = record {
+      last = last;
+      order = order;
+      calls = λ j u is. record { order = calls j u is; sound = sound j u is };
+    } in
+    λ i t there. ((does_whole e whole moment ev m x so does).calls i t there).sound
+
 -- the role is the end's
 does_role : (moment : ℕ) (ev : Event) (e x : End) (m : Move) → Does e moment ev m x → x.role ≡ e.role
 does_role moment ev e x (move.Opened m) h = ap (λ (y : End). y.role) h.after
