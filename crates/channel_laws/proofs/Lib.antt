@@ -1,5 +1,5 @@
 mod Numbers
-mod Spelled
+pub mod Spelled
 mod Told
 mod Reached
 pub mod Linked
@@ -69,7 +69,7 @@ mod Budgets
 mod Moving
 pub mod Stepping
 pub mod Committing
-mod Refusing
+pub mod Refusing
 mod Sending
 mod Records
 mod Earlier

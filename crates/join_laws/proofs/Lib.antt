@@ -55,4 +55,12 @@ pub mod Confirming
 pub mod Connecting
 pub mod HeardNext
 pub mod EndHeard
+pub mod HeardAny
+pub mod EndingSilent
+pub mod PlainHeard
+pub mod PlainTakes
+pub mod TakingPlain
+pub mod NextAlike
+pub mod Refusing
+pub mod RolesStay
 pub mod OtherMoves

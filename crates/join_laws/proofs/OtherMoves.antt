@@ -9,8 +9,10 @@ use Rattle.connection_laws.specs.Steps as calm
 use Rattle.channel_laws.specs.Recoveries.{WrittenIsRead, WrittenHasRoom}
 use Rattle.birth_laws.specs.Births.{BirthsOfRuns}
 use Rattle.coverage_laws.specs.Coverage.{CoverageOfRuns}
+use Rattle.letter_laws.specs.Letters.{LettersOfRuns}
 use Rattle.recovery_laws.specs.Growing.{ChannelsGrow}
-use Rattle.join_laws.specs.Moves.{OpeningMovesJoin, EndingMovesJoin, CallMovesJoin, RecoveryMovesJoin}
+use Rattle.join_laws.specs.Roles.{RefusingMovesJoin}
+use Rattle.join_laws.specs.Moves.{OpeningMovesJoin, EndingMovesJoin, CallMovesJoin, TakingMovesJoin, RecoveryMovesJoin}
 use Rattle.join_laws.proofs.Opening.{opened_joins}
 use Rattle.join_laws.proofs.Accepting.{accepted_joins}
 use Rattle.join_laws.proofs.Confirming.{confirmed_joins}
@@ -23,6 +25,9 @@ use Rattle.join_laws.proofs.FirstUp.{first_up_joins}
 use Rattle.join_laws.proofs.Replying.{replied_joins}
 use Rattle.join_laws.proofs.SecondUp.{second_up_joins}
 use Rattle.join_laws.proofs.EndHeard.{end_heard_joins}
+use Rattle.join_laws.proofs.EndingSilent.{end_silent_joins}
+use Rattle.join_laws.proofs.TakingPlain.{took_plain_joins}
+use Rattle.join_laws.proofs.Refusing.{refused_joins}
 use Rattle.join_laws.proofs.Froze.{froze_joins}
 
 pub opening_moves_join : ChannelsGrow → BirthsOfRuns → CoverageOfRuns → OpeningMovesJoin
@@ -54,7 +59,19 @@ call_moves_join hears grow births (move.FirstUp m) is = first_up_joins grow m
 call_moves_join hears grow births (move.SecondUp m) is = second_up_joins grow m
 call_moves_join hears grow births (move.EndHeard m) is =
     end_heard_joins hears.keep hears.plain hears.codecs hears.again hears.room hears.classes grow births m
+call_moves_join hears grow births (move.EndSilent m) is =
+    end_silent_joins hears.keep hears.codecs hears.again hears.room grow births m
 call_moves_join hears grow births m is = absurd is
+
+pub taking_moves_join : Hearing → ChannelsGrow → BirthsOfRuns → LettersOfRuns → TakingMovesJoin
+taking_moves_join hears grow births letters (move.TookPlain m) is =
+    took_plain_joins hears.keep hears.plain hears.codecs hears.again hears.room hears.classes grow births letters m
+taking_moves_join hears grow births letters m is = absurd is
+
+pub refusing_moves_join : Hearing → ChannelsGrow → BirthsOfRuns → RefusingMovesJoin
+refusing_moves_join hears grow births (move.Refused m) is =
+    refused_joins hears.keep hears.plain hears.codecs hears.again hears.room hears.classes grow births m
+refusing_moves_join hears grow births m is = absurd is
 
 pub recovery_moves_join : ChannelsGrow → RecoveryMovesJoin
 recovery_moves_join grow (move.Froze m) is = froze_joins grow.stay m

@@ -54,17 +54,26 @@ IsEnding m = ⊥
 abbrev pub EndingMovesJoin : Type 0
 EndingMovesJoin = (m : Move) → IsEnding m → Joins m
 
--- moves of calls: one is added, or the tunnel takes a letter about one
+-- moves of calls: one is added, or ends without a word, or the tunnel takes a letter about one
 abbrev pub IsOfCall : Move → Type 0
 IsOfCall (move.Added m) = Unit {0}
 IsOfCall (move.Replied m) = Unit {0}
 IsOfCall (move.FirstUp m) = Unit {0}
 IsOfCall (move.SecondUp m) = Unit {0}
 IsOfCall (move.EndHeard m) = Unit {0}
+IsOfCall (move.EndSilent m) = Unit {0}
 IsOfCall m = ⊥
 
 abbrev pub CallMovesJoin : Type 0
 CallMovesJoin = (m : Move) → IsOfCall m → Joins m
+
+-- moves by which a tunnel takes a letter that is about none of its calls, and of which no tunnel is opened or closed
+abbrev pub IsTaking : Move → Type 0
+IsTaking (move.TookPlain m) = Unit {0}
+IsTaking m = ⊥
+
+abbrev pub TakingMovesJoin : Type 0
+TakingMovesJoin = (m : Move) → IsTaking m → Joins m
 
 -- moves of recoveries: an attempt of the other end is answered, and either end resets its tunnel
 abbrev pub IsOfRecovery : Move → Type 0

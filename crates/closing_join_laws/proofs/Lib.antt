@@ -1,0 +1,9 @@
+pub mod Knowing
+pub mod Settling
+pub mod Refused
+pub mod Declining
+pub mod Refusals
+pub mod Lost
+pub mod Stopping
+pub mod StoppingLater
+pub mod ClosingMoves
