@@ -1,5 +1,5 @@
 -- The body of a control message, with the pairs that it spells.
-use Rattle.std.specs.Prelude.{◌≡◌, ℕ, ◌≤◌, true, List, length, Result, Ok, Err, IfOk}
+use Rattle.std.specs.Prelude.{◌≡◌, ℕ, ◌+◌, ◌-◌, ◌≤◌, true, List, [], ◌∷◌, length, Result, Ok, Err, IfOk}
 use Rattle.wire_base.specs.Answers.{Gives}
 use Rattle.avp_codec.specs.declared.avp.Avp.{Avp}
 use Rattle.avp_codec.specs.declared.error.AvpError.{AvpError}
@@ -26,3 +26,12 @@ AreReadOf bytes (Err e) places = Unit {0}
 -- the body lies in the datagram
 abbrev pub LiesInside : List ℕ → Result Header HeaderError → Type 0
 LiesInside bytes header = IfOk header (λ h. (h.start ≤ h.end) × (h.end ≤ length bytes))
+
+-- that of a control message stands behind twelve bytes at least, and its end in two (RFC 2661 section 3.1)
+abbrev pub IsShort : Result Header HeaderError → Type 0
+IsShort header = IfOk header (λ h. h.control ≡ true → h.end - h.start ≤ 65523)
+
+-- how many bytes pairs take, each with the six of its head
+abbrev pub room_of : List Avp → ℕ
+room_of [] = 0
+room_of (a ∷ avps) = 6 + length a.value + room_of avps

@@ -1,9 +1,9 @@
 //! A datagram with what stands at its front: its header is read once, and so are the pairs of a control message, as places in it.
 #![tactic(auto)]
 
-ghost use Rattle.std.specs.Prelude.{◌≡◌, true, length, Ok, nat_eq};
+ghost use Rattle.std.specs.Prelude.{◌≡◌, ◌≤◌, true, length, Ok, IfOk, nat_eq};
 ghost use Rattle.l2tp_header.specs.Reading.{header_of, body_of};
-ghost use Rattle.l2tp_datagram.specs.Bodies.{AreRead, AreReadOf, LiesInside};
+ghost use Rattle.l2tp_datagram.specs.Bodies.{AreRead, AreReadOf, LiesInside, IsShort, room_of};
 
 use avp_codec::{AvpError, LentAvps, Places, read_places};
 use l2tp_header::{Header, HeaderError, read_header};
@@ -23,13 +23,13 @@ pub struct Datagram {
 impl Model for Datagram {
     ghost use Rattle.std.specs.Prelude.{◌≡◌, ℕ, List};
     ghost use Rattle.l2tp_header.specs.Reading.{header_of, body_of};
-    ghost use Rattle.l2tp_datagram.specs.Bodies.{AreReadOf, LiesInside};
+    ghost use Rattle.l2tp_datagram.specs.Bodies.{AreReadOf, LiesInside, IsShort};
 
     ghost Value = { List ℕ };
 
     ghost view = { λ d. d.bytes };
 
-    ghost invariant = { λ d. (d.header ≡ header_of d.bytes) × AreReadOf d.bytes d.header d.places × LiesInside d.bytes d.header };
+    ghost invariant = { λ d. (d.header ≡ header_of d.bytes) × AreReadOf d.bytes d.header d.places × LiesInside d.bytes d.header × IsShort d.header };
 }
 
 /// The body of a control message, seen as its bytes, with its pairs.
@@ -40,14 +40,14 @@ pub struct Body<'a> {
 }
 
 impl<'a> Model for Body<'a> {
-    ghost use Rattle.std.specs.Prelude.{ℕ, List};
+    ghost use Rattle.std.specs.Prelude.{ℕ, ◌≤◌, List, length};
     ghost use Rattle.l2tp_datagram.specs.Bodies.{ArePlaces};
 
     ghost Value = { List ℕ };
 
     ghost view = { λ b. b.bytes.now };
 
-    ghost invariant = { λ b. ArePlaces b.bytes.now b.places.now };
+    ghost invariant = { λ b. ArePlaces b.bytes.now b.places.now × (length b.bytes.now ≤ 65523) };
 }
 
 /// The places of the pairs of a datagram with this header, in its body.
@@ -123,9 +123,11 @@ impl<'a> Body<'a> {
         self.bytes.is_empty()
     }
 
-    /// The pairs that it spells, or the first fault of them, or that memory was wanting as it was read.
+    /// The pairs that it spells, or the first fault of them, or that memory was wanting as it was read. They take no more bytes than a
+    /// control message has behind its header.
     pub fn pairs(&self) -> Result<LentAvps<'a>, AvpError>
-        ensures { AreRead self.now result }
+        ensures read { AreRead self.now result }
+        ensures room { IfOk result (λ avps. room_of avps ≤ 65523) }
     {
         match self.places {
             Ok(places) => Ok(LentAvps::new(self.bytes, places.as_slice())),

@@ -1,1 +1,2 @@
 mod Tunnels
+mod Few

@@ -1,6 +1,8 @@
 //! What a datagram says.
 
-ghost use Rattle.std.specs.Prelude.{◌≡◌, Ok, Err, Some, IfOk};
+ghost use Rattle.std.specs.Prelude.{◌≡◌, ◌≤◌, Ok, Err, Some, IfOk};
+ghost use Rattle.l2tp_datagram.specs.Bodies.{room_of};
+ghost use Rattle.message_reading.specs.Few.{HasFew};
 ghost use Rattle.tunnel_fsm.specs.declared.table.TunnelEvent.TheVariants as event;
 ghost use Rattle.end_model.specs.Reading.{kind_said, message_in, pairs_read, fault_cause, is_about_call, is_request, is_value, is_for_call, fault_of_kind, fault_of_pairs, call_fault_in, event_of_kind, told_by_kind, closing, closing_by, tunnel_fault_of_kind, tunnel_fault_read, tunnel_fault_of_pairs, tunnel_fault_in};
 
@@ -173,9 +175,11 @@ fn closing_of(avps: &LentAvps<'_>, error: MessageError) -> Option<TunnelFault>
 /// What pairs say.
 #[tactic(auto, unfolding(end_model::specs::Reading::message_read, end_model::specs::Reading::pairs_read, end_model::specs::Reading::fault_of_pairs, end_model::specs::Reading::tunnel_fault_of_pairs))]
 fn said_of(alloc: Global, avps: &LentAvps<'_>) -> Result<Said, NoMemory>
+    requires room { room_of avps.now ≤ 65523 }
     ensures message { IfOk result (λ said. said.message ≡ pairs_read (Ok avps.now)) }
     ensures fault { IfOk result (λ said. said.fault ≡ fault_of_pairs (Ok avps.now)) }
     ensures closing { IfOk result (λ said. said.closing ≡ tunnel_fault_of_pairs (Ok avps.now)) }
+    ensures few { IfOk result (λ said. HasFew said.message) }
 {
     match read_message(alloc, avps, None, Kinds::Queries) {
         Ok(Read::Known(message)) => Ok(Said {
@@ -197,12 +201,13 @@ fn said_of(alloc: Global, avps: &LentAvps<'_>) -> Result<Said, NoMemory>
     }
 }
 
-/// What the body of a control message says.
+/// What the body of a control message says. It names no more sessions than one message has room for.
 #[tactic(auto, unfolding(end_model::specs::Reading::message_in, end_model::specs::Reading::pairs_read, end_model::specs::Reading::call_fault_in, end_model::specs::Reading::fault_of_pairs, end_model::specs::Reading::tunnel_fault_in, end_model::specs::Reading::tunnel_fault_of_pairs))]
 pub fn read_body(alloc: Global, body: &Body<'_>) -> Result<Said, NoMemory>
     ensures message { IfOk result (λ said. said.message ≡ message_in body.now) }
     ensures fault { IfOk result (λ said. said.fault ≡ call_fault_in body.now) }
     ensures closing { IfOk result (λ said. said.closing ≡ tunnel_fault_in body.now) }
+    ensures few { IfOk result (λ said. HasFew said.message) }
 {
     match body.pairs() {
         Ok(avps) => said_of(alloc, &avps),

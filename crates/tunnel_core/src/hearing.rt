@@ -1,8 +1,9 @@
 //! Control messages of a tunnel.
 
-ghost use Rattle.std.specs.Prelude.{◌≡◌, ℕ, false, OnOk};
+ghost use Rattle.std.specs.Prelude.{◌≡◌, ℕ, ◌≤◌, false, length, Ok, OnOk};
 ghost use Rattle.control_message.specs.declared.message.Message.TheVariants.{Sccrq, Sccrp, Scccn};
 ghost use Rattle.l2tp_header.specs.Reading.{header_of};
+ghost use Rattle.message_reading.specs.Few.{HasFew};
 ghost use Rattle.end_model.specs.Hearing.{connects, takes, about_call, in_call, in_query, heeds_answer, hears, hears_said, hears_next, hears_letter, is_duplicate, in_tunnel, first_said, mode_why, ignores_all, hears_control, hears_datagram};
 ghost use Rattle.end_model.specs.Sending.{settles};
 ghost use Rattle.end_model.specs.Asking.{session_named};
@@ -216,6 +217,7 @@ fn hear_scccn(
 /// A query of the peer for sessions: only an open tunnel has any.
 #[tactic(auto, unfolding(end_model::specs::Hearing::in_query))]
 fn hear_query(turn: &mut Turn, calls: &TunnelCalls, sessions: &[Pair]) -> Result<(), NoMemory>
+    requires few { length sessions.now ≤ 4094 }
     ensures { OnOk result (turn.new ≡ in_query calls.now.entries sessions.now turn.old) }
 {
     if turn.control.state != TunnelState::Established {
@@ -255,6 +257,7 @@ fn hear_letter(
     session: u16,
     message: &Message,
 ) -> Result<(), NoMemory>
+    requires few { HasFew (Ok message.now) }
     ensures { OnOk result (turn.new ≡ hears role config.now calls.now.entries session message.now turn.old) }
 {
     match message {
@@ -285,6 +288,7 @@ fn hear_said(
     session: u16,
     said: &Said,
 ) -> Result<(), NoMemory>
+    requires few { HasFew said.now.message }
     ensures { OnOk result (turn.new ≡ hears_said role config.now calls.now.entries session said.now.fault said.now.closing said.now.message turn.old) }
 {
     match &said.message {

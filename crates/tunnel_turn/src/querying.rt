@@ -1,6 +1,6 @@
 //! Sessions that an end asks its peer for after a reset, and those that it is asked for (RFC 4951 sections 4.3.3 and 5.4).
 
-ghost use Rattle.std.specs.Prelude.{◌≡◌, ◌++◌, Some, OnOk, IfOk, IfSome, IsTrue, length};
+ghost use Rattle.std.specs.Prelude.{◌≡◌, ◌≤◌, ◌++◌, Some, OnOk, IfOk, IfSome, IsTrue, length};
 ghost use Rattle.control_message.specs.Pairs.{AreWrittenSessions};
 ghost use Rattle.session_query.specs.Kept.{AreIds};
 ghost use Rattle.session_query.specs.Queries.{next_batch, with_batch, answered, answers_to};
@@ -18,9 +18,6 @@ use std::alloc::Global;
 use tunnel_calls::TunnelCalls;
 use tunnel_timers::is_open;
 use wire_base::{NoMemory, Pair, Pairs, Sequence, Why};
-
-/// How many sessions a message has room for.
-const MOST: usize = 4_094;
 
 /// What the answer to a query tells.
 #[derive(Drop)]
@@ -96,19 +93,16 @@ fn answer_now(turn: &mut Turn, asked: &[Pair], answers: Pairs) -> Result<(), NoM
     turn.give(0, &Message::Fsr(answers))
 }
 
-/// Takes the query of the peer for these sessions, and answers it. No datagram has room for more than are answered: for more the answer
-/// is as if memory were wanting.
+/// Takes the query of the peer for these sessions, and answers it.
 #[tactic(auto, unfolding(end_model::specs::Querying::answers_query))]
 pub fn answer_query(turn: &mut Turn, calls: &TunnelCalls, asked: &[Pair]) -> Result<(), NoMemory>
+    requires few { length asked.now ≤ 4094 }
     ensures { OnOk result (turn.new ≡ answers_query calls.now.entries asked.now turn.old) }
 {
     if !turn.has_room() {
         return turn.drop_with(Why::Queue);
     }
     let answers = calls.answers(asked)?;
-    if answers.len() > MOST {
-        return Err(NoMemory);
-    }
     answer_now(turn, asked, answers)
 }
 
