@@ -4,3 +4,4 @@ pub mod Grammar
 pub mod Faults
 pub mod Reading
 pub mod Again
+pub mod Fields
