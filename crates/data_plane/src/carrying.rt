@@ -11,7 +11,7 @@ use crate::carry::Carry;
 use end_names::Role;
 use l2tp_header::{Header, read_header, write_data};
 use session_cells::{CellSeen, Cells};
-use session_looks::{Look, frame_of, header_why};
+use session_looks::{Look, header_why};
 use std::alloc::Global;
 use wire_base::{Bytes, NoMemory, Why};
 
@@ -25,7 +25,8 @@ fn role_of(lns: bool) -> Role
 /// which may be left out.
 fn place_of(body: &[u8], start: usize, end: usize) -> usize
     requires { start + length body.now ≡ end }
-    ensures { result ≡ place_in start body.now }
+    ensures exact { result ≡ place_in start body.now }
+    ensures within { result ≤ end }
 {
     match body {
         [0xff, 0x03, ..] => start + 2,
@@ -33,11 +34,36 @@ fn place_of(body: &[u8], start: usize, end: usize) -> usize
     }
 }
 
+/// What becomes of a data message by a look at its session, wherever its frame stands.
+#[tactic(auto, using(crate::proofs::Frames::cut_is), unfolding(crate::specs::Carries::carry_of))]
+fn carry_frame(look: Look, lns: bool, peer: u32, header: &Header, datagram: &[u8]) -> Carry
+    requires ordered { header.now.start ≤ header.now.end }
+    requires inside { header.now.end ≤ length datagram.now }
+    ensures exact { result ≡ carry_of (role_of lns) look peer header.now datagram.now }
+    ensures frame { HasFrame result datagram.now (frame_of (body_of datagram.now header.now)) }
+{
+    let start = place_of(
+        &datagram[header.start..header.end],
+        header.start,
+        header.end,
+    );
+    let frame = &datagram[start..header.end];
+    match session_looks::carry_look(role_of(lns), look, peer, header, frame) {
+        Err(why) => Carry::Dropped { why },
+        Ok(way) => Carry::Up {
+            session: header.session,
+            side: way.side,
+            start,
+            end: header.end,
+        },
+    }
+}
+
 /// What becomes of a data message that came from an address, by what is seen of the session that its header names. The reasons of
 /// a drop are tried in the order `session`, `tunnel`, `peer`, `short`, `closed`; at an LNS a frame of LCP also goes up in a call
 /// in which frames of the network don't pass yet. It takes no memory. Condition: the header's body lies within the datagram, as
 /// that of a header that was read from it does.
-#[tactic(auto, using(crate::proofs::Frames::cut_is), unfolding(crate::specs::Carries::carry_of))]
+#[tactic(auto, unfolding(crate::specs::Carries::carry_of, session_looks::specs::Frames::carry_look))]
 pub fn carry_look(look: Look, lns: bool, peer: u32, header: &Header, datagram: &[u8]) -> Carry
     requires ordered { header.now.start ≤ header.now.end }
     requires inside { header.now.end ≤ length datagram.now }
@@ -45,16 +71,27 @@ pub fn carry_look(look: Look, lns: bool, peer: u32, header: &Header, datagram: &
     // What goes up are the bytes of the frame.
     ensures frame { HasFrame result datagram.now (frame_of (body_of datagram.now header.now)) }
 {
-    let body = &datagram[header.start..header.end];
-    let frame = frame_of(body);
-    match session_looks::carry_look(role_of(lns), look, peer, header, frame) {
-        Err(why) => Carry::Dropped { why },
-        Ok(way) => Carry::Up {
-            session: header.session,
-            side: way.side,
-            start: place_of(body, header.start, header.end),
-            end: header.end,
-        },
+    // The state is told apart once, before the frame is looked at, and each arm is compiled for its state.
+    match look {
+        Look::Unborn | Look::Dead => Carry::Dropped { why: Why::Session },
+        Look::Bound { tunnel, peer: to } => {
+            carry_frame(
+                Look::Bound { tunnel, peer: to },
+                lns,
+                peer,
+                header,
+                datagram,
+            )
+        }
+        Look::Established { tunnel, peer: to } => {
+            carry_frame(
+                Look::Established { tunnel, peer: to },
+                lns,
+                peer,
+                header,
+                datagram,
+            )
+        }
     }
 }
 

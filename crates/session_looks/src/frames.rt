@@ -66,32 +66,33 @@ pub struct Way {
     pub side: Side,
 }
 
-/// The way of a frame of a call that the peer knows, or why it is dropped.
+/// The way of a frame of a call that the peer knows, in this tunnel to this peer, or why it is dropped.
 #[tactic(auto, unfolding(crate::specs::Frames::carry_known))]
 fn carry_known(
     role: Role,
     up: bool,
-    known: Way,
+    tunnel: u16,
+    peer: u32,
     header: &Header,
     from: u32,
     frame: &[u8],
 ) -> Result<Way, Why>
-    requires { known.side ≡ side_of role frame.now }
-    ensures { MatchResult result (λ w. carry_known role up known.tunnel header.now.tunnel known.peer from frame.now ≡ Upward w.tunnel w.peer w.side frame.now) (λ e. carry_known role up known.tunnel header.now.tunnel known.peer from frame.now ≡ Dropped e) }
+    ensures { MatchResult result (λ w. carry_known role up tunnel header.now.tunnel peer from frame.now ≡ Upward w.tunnel w.peer w.side frame.now) (λ e. carry_known role up tunnel header.now.tunnel peer from frame.now ≡ Dropped e) }
 {
-    if known.tunnel != header.tunnel {
+    if tunnel != header.tunnel {
         return Err(Why::Tunnel);
     }
-    if known.peer != from {
+    if peer != from {
         return Err(Why::Peer);
     }
     if frame.len() < 2 {
         return Err(Why::Short);
     }
+    let side = side_of(role, frame);
     if !up && !is_for_lcp(role, frame) {
         return Err(Why::Closed);
     }
-    Ok(known)
+    Ok(Way { tunnel, peer, side })
 }
 
 /// What becomes of a data message from an address, by what is seen of the session that its header names: the way of its
@@ -106,14 +107,13 @@ pub fn carry_look(
 ) -> Result<Way, Why>
     ensures { MatchResult result (λ w. carry_look role look from header.now frame.now ≡ Upward w.tunnel w.peer w.side frame.now) (λ e. carry_look role look from header.now frame.now ≡ Dropped e) }
 {
-    let side = side_of(role, frame);
     match look {
         Look::Unborn | Look::Dead => Err(Why::Session),
         Look::Bound { tunnel, peer } => {
-            carry_known(role, false, Way { tunnel, peer, side }, header, from, frame)
+            carry_known(role, false, tunnel, peer, header, from, frame)
         }
         Look::Established { tunnel, peer } => {
-            carry_known(role, true, Way { tunnel, peer, side }, header, from, frame)
+            carry_known(role, true, tunnel, peer, header, from, frame)
         }
     }
 }
