@@ -18,6 +18,7 @@ use l2tp_header::Header;
 use message_reading::{
     is_of_version, lacks_secret, no_id, no_recovery, no_secret, other_version, read_body,
 };
+use recovery_tunnel::{Judged, judge};
 use std::alloc::Global;
 use step_ledger::{Ledger, StepFault};
 use tunnel_fsm::TunnelState;
@@ -125,7 +126,8 @@ impl End {
         if found.tied {
             return self.drop_with(ledger, Why::Tie);
         }
-        if opening.attempt.unwrap_or(0) < found.mark {
+        let draw = opening.attempt.unwrap_or(0);
+        if matches!(judge(found.mark, draw, false), Judged::Older) {
             return self.drop_with(ledger, Why::Mark);
         }
         if lacks_secret(&self.config.secret, &opening.challenge) {
