@@ -4,7 +4,7 @@ use Rattle.std.proofs.Common.{refl, ap, subst, sym, ◌∙◌, ⊎_elim, arith}
 use Rattle.std.proofs.lemmas.Bool.Decides.{nat_tests}
 use Rattle.std.proofs.lemmas.Option.{none-some}
 use Rattle.id_table.specs.Ids.{at, put, without, at-none, ids_of}
-use Rattle.id_table.specs.Order.{Ascends, ascends-empty, ascends-put, ascends-without, at_new, at_other, at_without_other, at_without_same, found_put, found_without}
+use Rattle.id_table.specs.Order.{Ascends, ascends-empty, ascends-put, ascends-without, at_new, at_other, at_without_other, at_without_same, found_put, found_without, same_or_not}
 use Rattle.id_index.specs.Keys.{has_label}
 use Rattle.id_index.specs.Indexes.{Listing, Lists, IsRelabelled, IsFirst}
 use Rattle.id_index.specs.Firsts.{first_found, within_empty, within_put, within_without}
@@ -103,6 +103,22 @@ kept_put x y ts id before l t few was is small are kept = record {
   lines = listed_put line_in x.lines y.lines ts id before l t was is are.lines kept.lines;
   answers = listed_put answer_in x.answers y.answers ts id before l t was is are.answers kept.answers;
 }
+
+-- the same label is given again
+stays : (x : Listing) (id : ℕ) (l : Option ℕ) → IsRelabelled x x id l l
+unfolding Lists
+stays x id l labels next lists was is others whole k i lt =
+    let same : next i ≡ labels i = ⊎_elim
+    (λ (e : i ≡ id). ap next e ∙ is ∙ sym was ∙ sym (ap labels e)) (λ (apart : i ≡ id → ⊥). others i apart) (same_or_not i id) in
+    lists whole k i lt ∙ ap (has_label k) (sym same)
+
+pub same_labels : (x : Listings) (id : ℕ) (before after : Option Labels) → before ≡ after → AreRelabelled x x id before after
+same_labels x id before after same = subst (AreRelabelled x x id before) same (record {
+  remotes = stays x.remotes id (label_in remote_in before);
+  states = stays x.states id (label_in state_in before);
+  lines = stays x.lines id (label_in line_in before);
+  answers = stays x.answers id (label_in answer_in before);
+})
 
 pub kept_without : (x y : Listings) (ts : List (ℕ × Tunnel)) (id : ℕ) (before : Option Labels) → id < 4294967296 → labels_in ts id ≡ before
     → AreRelabelled x y id before None → AreKept x ts → AreKept y (without ts id)

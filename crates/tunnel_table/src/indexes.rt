@@ -1,6 +1,6 @@
 //! The indexes of tunnels, each by one of their labels.
 
-ghost use Rattle.std.specs.Prelude.{◌≡◌, ℕ, List, [], Some, is_some, IfSome};
+ghost use Rattle.std.specs.Prelude.{◌≡◌, ℕ, List, [], Some, is_some, IfSome, IsTrue};
 ghost use Rattle.id_table.specs.Ids.{put, without};
 ghost use Rattle.tunnel_fsm.specs.Rows.{state_number};
 ghost use Rattle.end_model.specs.Tunnels.{Tunnel};
@@ -8,7 +8,7 @@ ghost use Rattle.end_model.specs.End.{known_as, least_in, recovered_by, answered
 ghost use Rattle.tunnel_table.specs.Labels.{labels_of, labels_in, IsSmall, AreRelabelled, AreKept};
 
 use crate::labels::{
-    Labels, RECOVERING, answer_in, line_in, number_of, remote_in, remote_label, state_in,
+    Labels, RECOVERING, answer_in, are_same, line_in, number_of, remote_in, remote_label, state_in,
     state_label,
 };
 use id_index::Index;
@@ -38,6 +38,16 @@ impl Model for Indexes {
     ghost view = { λ x. record { remotes = x.remotes; states = x.states; lines = x.lines; answers = x.answers } };
 }
 
+/// Whether a tunnel had these labels before.
+fn has_labels(before: &Option<Labels>, after: &Labels) -> bool
+    ensures { IsTrue result → before.now ≡ Some after.now }
+{
+    match before {
+        None => false,
+        Some(before) => are_same(before, after),
+    }
+}
+
 impl Indexes {
     /// There are no tunnels. It takes no memory.
     pub(crate) fn new(alloc: Global) -> Indexes
@@ -61,10 +71,14 @@ impl Indexes {
         self.answers.make_key(id, labels.answer)
     }
 
-    /// Lists a tunnel by these labels in place of those that it had. It takes no memory where room was made for it.
+    /// Lists a tunnel by these labels in place of those that it had. It takes no memory where room was made for it. Most steps leave
+    /// a tunnel the labels that it has: then nothing is looked for.
     pub(crate) fn list(&mut self, id: u32, before: &Option<Labels>, after: &Labels)
         ensures { (ts : List (ℕ × Tunnel)) (t : Tunnel) → AreKept self.old ts → labels_in ts id ≡ before.now → labels_of t ≡ after.now → IsSmall t → AreKept self.new (put ts id t) }
     {
+        if has_labels(before, after) {
+            return;
+        }
         let labels = Some(*after);
         self.relabel(id, before, &labels);
     }

@@ -1,6 +1,6 @@
 //! What a tunnel is found by.
 
-ghost use Rattle.std.specs.Prelude.{◌≡◌, ◌<◌, Some, IfSome};
+ghost use Rattle.std.specs.Prelude.{◌≡◌, ◌<◌, Some, IfSome, IsTrue};
 ghost use Rattle.std.specs.Option.{option_copied};
 ghost use Rattle.end_model.specs.Tunnels.{connection_of, mode_of};
 ghost use Rattle.tunnel_fsm.specs.Rows.{state_number};
@@ -173,7 +173,9 @@ pub(crate) fn answer_in(labels: &Option<Labels>) -> Option<u64>
 }
 
 /// Whether a tunnel is found as before, so that it keeps its keys.
-pub(crate) fn are_same(before: &Labels, after: &Labels) -> bool {
+pub(crate) fn are_same(before: &Labels, after: &Labels) -> bool
+    ensures { IsTrue result → before.now ≡ after.now }
+{
     before.remote == after.remote
         && before.state == after.state
         && before.line == after.line
