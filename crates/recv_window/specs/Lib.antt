@@ -1,1 +1,3 @@
+pub mod Ahead
+pub mod Receiving
 pub mod Window

@@ -1,10 +1,15 @@
 //! The inbox of a control channel (RFC 2661 section 5.8): which message is the next one, which came before, and which came
 //! ahead of others. A number on the wire tells it, as long as it is within half the numbers of the one that is expected.
+//! Beside it stands what came ahead and is kept until it has become next.
 #![tactic(auto)]
 
 ghost use Rattle.std.specs.Prelude.{◌≡◌};
 ghost use Rattle.recv_window.specs.Window.{inbox_from, on_wire, after_take, class_of, CountHasNoEnd, ClassIsTrue, TakenInOrder};
+ghost use Rattle.recv_window.specs.Receiving.{KeptAreTakenInOrder, CopiesReplaceNone, TakesTheSameFirst};
 
+mod kept;
+
+pub use kept::{KeptAhead, PLACES};
 use std::marker::Model;
 
 /// What a message is by its Ns.
@@ -102,4 +107,18 @@ pub fn the_class_is_true()
 /// from the number that was expected first: each number once, and in order.
 pub fn messages_are_taken_in_order()
     ensures { TakenInOrder }
+{}
+
+/// A law: the same where what comes less than 8 ahead is kept, of messages of any kind, and taken once it has become next.
+/// Each number is taken once, and in order, and each message that is taken came. What is kept at a place came with the number
+/// that is so many past the one that is expected, and it came first: a copy replaces none. So it is with what is taken, where
+/// all that is kept and has become next is taken before another message comes.
+pub fn kept_messages_are_taken_in_order<T>()
+    ensures in_order { KeptAreTakenInOrder T }
+    ensures first { CopiesReplaceNone T }
+{}
+
+/// A law: the numbers that are taken where what comes ahead is dropped are the first that are taken where it is kept.
+pub fn keeping_takes_the_same_first<T>()
+    ensures { TakesTheSameFirst T }
 {}
