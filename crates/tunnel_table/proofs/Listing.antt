@@ -17,7 +17,8 @@ use Rattle.end_model.specs.declared.tunnel.Mode.TheVariants.{Current, Frozen, Re
 use Rattle.end_model.specs.Tunnels.{Tunnel, Recovering, ByAttempt, ByAnswer, mode_of, is_current}
 use Rattle.end_model.specs.End.{is_known, known_as, is_in, least_in, has_line, recovered_by, is_answered, answered_to, is_recovering, are_recovering}
 use Rattle.tunnel_table.specs.declared.labels.Labels.{Labels}
-use Rattle.tunnel_table.specs.Labels.{remote_label, state_label, number_by, recovering_number, labels_of, labels_in, label_in, listed, remote_in, state_in, line_in, answer_in, IsSmall, AreSmall, Listings, AreRelabelled, AreKept}
+use Rattle.tunnel_core.specs.Cores.{Plan, made_of}
+use Rattle.tunnel_table.specs.Labels.{remote_label, state_label, number_by, recovering_number, labels_of, labels_in, label_in, listed, remote_in, state_in, line_in, answer_in, IsSmall, AreSmall, StaysLabelled, Listings, AreRelabelled, AreKept}
 
 -- ---- labels
 
@@ -119,6 +120,21 @@ same_labels x id before after same = subst (AreRelabelled x x id before) same (r
   lines = stays x.lines id (label_in line_in before);
   answers = stays x.answers id (label_in answer_in before);
 })
+
+-- a tunnel that keeps its labels by a plan is listed as it was
+labels_stay : (p : Plan) (t : Tunnel) → StaysLabelled p t → labels_of (made_of p t) ≡ labels_of t
+labels_stay p t h = rw (h.recovery, sym h.peer, sym h.remote, sym h.state) refl
+
+small_stays : (p : Plan) (t : Tunnel) → StaysLabelled p t → IsSmall t → IsSmall (made_of p t)
+small_stays p t h small = rw (h.recovery, sym h.remote) small
+
+pub kept_stays : (x : Listings) (ts : List (ℕ × Tunnel)) (id : ℕ) (p : Plan) (t : Tunnel) → id < 4294967296 → at ts id ≡ Some t
+    → StaysLabelled p t → AreKept x ts → AreKept x (put ts id (made_of p t))
+unfolding AreSmall
+kept_stays x ts id p t few there stays kept =
+    let before = Some (labels_of t) in
+    kept_put x x ts id before (labels_of t) (made_of p t) few (ap (option_map labels_of) there) (labels_stay p t stays)
+    (small_stays p t stays (kept.small id t there)) (same_labels x id before before refl) kept
 
 pub kept_without : (x y : Listings) (ts : List (ℕ × Tunnel)) (id : ℕ) (before : Option Labels) → id < 4294967296 → labels_in ts id ≡ before
     → AreRelabelled x y id before None → AreKept x ts → AreKept y (without ts id)

@@ -1,6 +1,6 @@
 -- The labels by which tunnels are found: their peer with the id that it assigned, their peer with their state, and the ids of their
 -- recovery tunnels.
-use Rattle.std.specs.Prelude.{⊤, ◌≡◌, ℕ, ◌+◌, ◌*◌, ◌<◌, if◌then◌else◌, List, Option, Some, None, IfSome, option_map}
+use Rattle.std.specs.Prelude.{◌≡◌, ℕ, ◌+◌, ◌*◌, ◌<◌, if◌then◌else◌, List, Option, Some, None, IfSome, option_map}
 use Rattle.id_table.specs.Ids.{at}
 use Rattle.id_table.specs.Order.{Ascends}
 use Rattle.id_index.specs.Indexes.{Listing, Lists, IsRelabelled, IsWithin}
@@ -9,6 +9,7 @@ use Rattle.tunnel_fsm.specs.Rows.{state_number}
 use Rattle.end_model.specs.declared.tunnel.Control.{Control}
 use Rattle.end_model.specs.declared.tunnel.Mode.{Mode}
 use Rattle.end_model.specs.Tunnels.{Tunnel, Recovering, ByAttempt, ByAnswer, connection_of, mode_of, is_current}
+use Rattle.tunnel_core.specs.Cores.{Plan}
 use Rattle.tunnel_table.specs.declared.labels.Labels.{Labels}
 
 -- an id that a peer assigned has 16 bits
@@ -78,6 +79,13 @@ IsSmallBy c r = (c.remote < 65536) × IfSome r (λ x. (connection_of x).remote <
 
 abbrev pub IsSmall : Tunnel → Type 0
 IsSmall t = IsSmallBy t.control t.recovery
+
+-- a plan that changes none of what the labels of a tunnel are made of
+pub record StaysLabelled (p : Plan) (t : Tunnel) : Type 0 where
+  pub peer : t.control.peer ≡ p.control.peer
+  pub remote : t.control.remote ≡ p.control.remote
+  pub state : state_number t.control.state ≡ state_number p.control.state
+  pub recovery : p.recovery ≡ None
 
 unfoldable pub AreSmall : List (ℕ × Tunnel) → Type 0
 AreSmall ts = (i : ℕ) (t : Tunnel) → at ts i ≡ Some t → IsSmall t

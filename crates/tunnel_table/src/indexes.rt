@@ -1,19 +1,21 @@
 //! The indexes of tunnels, each by one of their labels.
 
 ghost use Rattle.std.specs.Prelude.{◌≡◌, ℕ, List, [], Some, is_some, IfSome, IsTrue};
-ghost use Rattle.id_table.specs.Ids.{put, without};
+ghost use Rattle.id_table.specs.Ids.{at, put, without};
 ghost use Rattle.tunnel_fsm.specs.Rows.{state_number};
 ghost use Rattle.end_model.specs.Tunnels.{Tunnel};
 ghost use Rattle.end_model.specs.End.{known_as, least_in, recovered_by, answered_to, are_recovering};
+ghost use Rattle.tunnel_core.specs.Cores.{tunnel_of, made_of};
 ghost use Rattle.tunnel_table.specs.Labels.{labels_of, labels_in, IsSmall, AreRelabelled, AreKept};
 
 use crate::labels::{
-    Labels, RECOVERING, answer_in, are_same, line_in, number_of, remote_in, remote_label, state_in,
-    state_label,
+    Labels, RECOVERING, answer_in, are_same, labels_after, labels_of, line_in, number_of,
+    remote_in, remote_label, state_in, state_label, stays_labelled,
 };
 use id_index::Index;
 use std::alloc::Global;
 use std::marker::Model;
+use tunnel_core::{Planned, TunnelCore};
 use tunnel_fsm::TunnelState;
 use wire_base::NoMemory;
 
@@ -71,8 +73,8 @@ impl Indexes {
         self.answers.make_key(id, labels.answer)
     }
 
-    /// Lists a tunnel by these labels in place of those that it had. It takes no memory where room was made for it. Most steps leave
-    /// a tunnel the labels that it has: then nothing is looked for.
+    /// Lists a tunnel by these labels in place of those that it had. It takes no memory where room was made for it. Where they are the
+    /// same nothing is looked for.
     pub(crate) fn list(&mut self, id: u32, before: &Option<Labels>, after: &Labels)
         ensures { (ts : List (ℕ × Tunnel)) (t : Tunnel) → AreKept self.old ts → labels_in ts id ≡ before.now → labels_of t ≡ after.now → IsSmall t → AreKept self.new (put ts id t) }
     {
@@ -81,6 +83,19 @@ impl Indexes {
         }
         let labels = Some(*after);
         self.relabel(id, before, &labels);
+    }
+
+    /// Lists a tunnel by the labels that it has after what is planned for it. It takes no memory where room was made for it. Most steps
+    /// change nothing of what the labels are made of: then none are made.
+    pub(crate) fn list_after(&mut self, id: u32, core: &TunnelCore, planned: &Planned)
+        ensures { (ts : List (ℕ × Tunnel)) → AreKept self.old ts → at ts id ≡ Some (tunnel_of core.now) → AreKept self.new (put ts id (made_of planned.now (tunnel_of core.now))) }
+    {
+        if stays_labelled(core, planned) {
+            return;
+        }
+        let before = Some(labels_of(core));
+        let after = labels_after(core, planned);
+        self.list(id, &before, &after);
     }
 
     /// Lists a tunnel no more, which had these labels.

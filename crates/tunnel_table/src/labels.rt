@@ -5,7 +5,7 @@ ghost use Rattle.std.specs.Option.{option_copied};
 ghost use Rattle.end_model.specs.Tunnels.{connection_of, mode_of};
 ghost use Rattle.tunnel_fsm.specs.Rows.{state_number};
 ghost use Rattle.tunnel_core.specs.Cores.{tunnel_of, made_of, recovery_after};
-ghost use Rattle.tunnel_table.specs.Labels.{remote_label, state_label, number_by, answer_label, answer_by, line_by, labels_by, labels_of, remote_in, state_in, line_in, answer_in, label_in, IsSmallBy, IsSmall};
+ghost use Rattle.tunnel_table.specs.Labels.{remote_label, state_label, number_by, answer_label, answer_by, line_by, labels_by, labels_of, remote_in, state_in, line_in, answer_in, label_in, IsSmallBy, IsSmall, StaysLabelled};
 
 use end_model::{Control, Mode};
 use recovery_tunnel::Recovering;
@@ -145,6 +145,19 @@ pub(crate) fn labels_after(core: &TunnelCore, planned: &Planned) -> Labels
         Some(after) => after,
     };
     labels_by(planned.control(), recovery)
+}
+
+/// Whether what is planned for a tunnel changes none of what its labels are made of.
+pub(crate) fn stays_labelled(core: &TunnelCore, planned: &Planned) -> bool
+    ensures { IsTrue result → StaysLabelled planned.now (tunnel_of core.now) }
+{
+    let (before, after) = (core.control(), planned.control());
+    if planned.recovery().is_some() {
+        return false;
+    }
+    before.peer == after.peer
+        && before.remote == after.remote
+        && number_of(before.state) == number_of(after.state)
 }
 
 /// The labels of a tunnel that may be there, one by one.

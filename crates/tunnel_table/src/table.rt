@@ -19,7 +19,7 @@ ghost use Rattle.tunnel_table.specs.Tunnels.{tunnels_of};
 
 use crate::finding::{first_answered, first_in, first_known, first_recovered, first_recovering};
 use crate::indexes::Indexes;
-use crate::labels::{Labels, are_same, labels_after, labels_of};
+use crate::labels::{Labels, labels_after, labels_of, stays_labelled};
 use end_model::{Config, Role};
 use id_table::Table;
 use std::alloc::Global;
@@ -93,7 +93,7 @@ fn plan_for(
     ensures kept { (ts : List (ℕ × Tunnel)) → AreKept indexes.old ts → AreKept indexes.new ts }
 {
     let planned = core.plan(role, config, env, task)?;
-    if !are_same(&labels_of(core), &labels_after(core, &planned)) {
+    if !stays_labelled(core, &planned) {
         make_keys(indexes, id, core, &planned)?;
     }
     Ok(planned)
@@ -199,8 +199,8 @@ impl TunnelTable {
         ensures made { tunnels_of self.new.entries ≡ after_plan (tunnels_of self.old.entries) (id, planned) (at (tunnels_of self.old.entries) id) }
         ensures others { (q : ℕ) → q ≢ id → at self.new.entries q ≡ at self.old.entries q }
     {
-        let before = labels_at(&self.table, id);
         if planned.clears() {
+            let before = labels_at(&self.table, id);
             self.indexes.unlist(id, &before);
             self.table.remove(id);
             return;
@@ -208,8 +208,7 @@ impl TunnelTable {
         let Some(core) = self.table.get_mut(id) else {
             unreachable!()
         };
-        let after = labels_after(core, &planned);
-        self.indexes.list(id, &before, &after);
+        self.indexes.list_after(id, core, &planned);
         core.apply(planned);
         self.due = self.due.min(core.due());
     }

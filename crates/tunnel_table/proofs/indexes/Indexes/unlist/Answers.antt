@@ -1,4 +1,3 @@
-use Rattle.std.specs.Prelude.{None}
 use Rattle.tunnel_table.proofs.Listing.{kept_without}
 use Rattle.tunnel_table.proofs.indexes.Indexes.unlist.Goals as goal
 

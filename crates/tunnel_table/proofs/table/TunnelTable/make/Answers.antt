@@ -1,14 +1,15 @@
 use Rattle.std.proofs.Common.{refl, sym, ap, subst, ◌∙◌}
-use Rattle.id_table.specs.Ids.{at, without}
+use Rattle.std.specs.Prelude.{option_map}
+use Rattle.id_table.specs.Ids.{at, put, without}
 use Rattle.id_table.specs.Order.{at_without_other}
 use Rattle.id_table.specs.Tables.{Kept}
 use Rattle.end_model.specs.Tunnels.{Tunnel}
 use Rattle.tunnel_timers.specs.Due.{IsNoLater, tunnels_due}
 use Rattle.tunnel_timers.specs.Bounds.{tunnels_without}
 use Rattle.tunnel_core.specs.Cores.{Core, tunnel_of}
-use Rattle.tunnel_table.specs.Labels.{labels_of, IsSmall, AreKept}
+use Rattle.tunnel_table.specs.Labels.{AreKept}
 use Rattle.tunnel_table.specs.Plans.{after_plan}
-use Rattle.tunnel_table.specs.Tunnels.{tunnels_of, without_tunnels}
+use Rattle.tunnel_table.specs.Tunnels.{tunnels_of, at_tunnels, without_tunnels}
 use Rattle.tunnel_table.proofs.Waiting.{made_due}
 use Rattle.tunnel_table.proofs.Made.{put_changed, others_same, kept_made, cleared_made}
 use Rattle.tunnel_table.proofs.table.TunnelTable.make.Goals as goal
@@ -35,10 +36,9 @@ pub invariant_of-self-2 : goal.invariant_of-self-2
 invariant_of-self-2 c =
     let es = c.self.inside.table.entries in
     let same = put_changed es _ c.args.id c.apply.new.self refl in (
-      subst (λ ts. AreKept c.list.new.self ts) (sym same)
-          (c.list.ensures (tunnels_of es) (tunnel_of c.apply.new.self) c.self.invariant.0 (sym c.labels_at-before.ensures)
-          (ap labels_of c.apply.ensures ∙ sym c.labels_after-after.ensures.value)
-          (subst (λ (t : Tunnel). IsSmall t) (sym c.apply.ensures) c.labels_after-after.ensures.small)),
+      subst (λ ts. AreKept c.list_after.new.self ts) (sym same)
+          (subst (λ (t : Tunnel). AreKept c.list_after.new.self (put (tunnels_of es) c.args.id t)) (sym c.apply.ensures)
+          (c.list_after.ensures (tunnels_of es) c.self.invariant.0 (at_tunnels es c.args.id ∙ ap (λ o. option_map tunnel_of o) (sym c.in-Some.ensures.value)))),
       made_due c.self.inside.due c.due.result c.min-self-inside.result es _ c.args.id c.apply.new.self same c.min-self-inside.ensures c.due.ensures c.self.invariant.1,
     )
 
