@@ -4,7 +4,6 @@ mod Told
 mod Reached
 pub mod Linked
 mod Heard
-mod Frames
 pub mod Lines
 pub mod Growing
 pub mod Resting
@@ -71,8 +70,8 @@ pub mod Stepping
 pub mod Committing
 pub mod Refusing
 mod Sending
-mod Records
-mod Earlier
+pub mod Records
+pub mod Earlier
 mod Cutting
 pub mod MoveLists
 pub mod Partners

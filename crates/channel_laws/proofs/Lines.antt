@@ -24,7 +24,7 @@ use Rattle.world_model.specs.World.{World, Node, Checkpoint, Sender, Lined, quie
 use Rattle.step_laws.specs.Gone.{gone_in}
 use Rattle.step_laws.specs.Lines.{tested_not, is_running, is_lac_at, is_lns_at, is_down_at, has_call, has_tunnel, IsAt, is_at, at_moment, is_later, none_there, committed_line, step_line, deliver_line, load_line, hand_line}
 use Rattle.step_laws.specs.Hosts.{LacAt, with_host, entering, reply_to, HostDoes, HostSends, HostLeaves}
-use Rattle.channel_laws.proofs.Frames.{OfFrame, frame_line}
+use Rattle.frame_laws.proofs.Frames.{OfFrame, frame_line}
 use Rattle.channel_laws.specs.Lines.{gone_by, gone_told, of_node, AreSame, Finds, AreHands, IsNoDatagram, ComesIn, OfPacket, OfItself, LineDoes, Nothing, ANode, Arms, Falls, Steps, Cuts, Starts, LinesDo}
 
 -- ---- what is told as gone

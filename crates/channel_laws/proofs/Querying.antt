@@ -1,7 +1,5 @@
 -- The moves by which a tunnel asks which sessions its other end still has, answers that, or is answered: only one that was reset asks.
 use Rattle.std.proofs.Common.{◌≡◌, inr, ℕ, List, [], ◌∷◌, refl, sym, ap, subst, Option, Some, None, Ok, arith}
-use Rattle.id_table.specs.Ids.{at, without}
-use Rattle.id_table.specs.Order.{Ascends, ascends-without, found_without}
 use Rattle.control_message.specs.declared.message.Message.TheVariants.{Fsq, Fsr}
 use Rattle.recv_window.specs.Window.{ClassIsTrue}
 use Rattle.session_looks.specs.declared.look.CellChange.TheVariants as cell
@@ -13,7 +11,6 @@ use Rattle.end_model.specs.declared.moves.Queried.{Queried}
 use Rattle.end_model.specs.declared.moves.AnsweredQuery.{AnsweredQuery}
 use Rattle.end_model.specs.declared.moves.TookAnswer.{TookAnswer}
 use Rattle.end_model.specs.declared.moves.Move.TheVariants as move
-use Rattle.end_model.specs.declared.tunnel.Call.{Call}
 use Rattle.end_model.specs.Calls.{sessions_of}
 use Rattle.end_model.specs.Channels.{counts_taken}
 use Rattle.end_model.specs.Querying.{unless_complete}
@@ -35,6 +32,7 @@ use Rattle.channel_laws.proofs.Giving.{with_places, live_there, gives_hold}
 use Rattle.channel_laws.proofs.Going.{GoesOn}
 use Rattle.channel_laws.proofs.LaterMoves.{live_later, channel_so, next_so, takes_hold}
 use Rattle.channel_laws.proofs.Open.{end_alike, takes_only, takes_and_gives}
+use Rattle.frame_laws.proofs.Sessions.{found_each}
 use Rattle.channel_laws.proofs.Sessions.{asks_none, batch_written, answers_written, query_left}
 use Rattle.channel_laws.proofs.TakesLater.{deed_plain, took_goes, took_and_given_goes, says_query, says_same}
 
@@ -72,14 +70,6 @@ module _ (w : World) (h : History) (n : ℕ) (node : Node) (sender : Option Send
         remotes = live.calls;
         three = o.open_is;
       })
-
--- ---- what is left of calls
-
-found_each : (ss : List ℕ) (calls : List (ℕ × Call)) (s : ℕ) (c : Call) → Ascends calls → at (without_each ss calls) s ≡ Some c
-    → at calls s ≡ Some c
-found_each [] calls s c order there = there
-found_each (k ∷ ss) calls s c order there =
-    (found_without calls k s c order (found_each ss (without calls k) s c (ascends-without k calls order) there)).1
 
 -- another query changes nothing else
 asks_on : (t u : Tunnel) (more : List Letter) (count : ℕ) (q : Asking) → GoesOn t u more count

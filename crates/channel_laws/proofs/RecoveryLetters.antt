@@ -1,16 +1,11 @@
 -- What a recovery tunnel sends in a step is a message of an attempt or of an answer, and is written by the codec's rules.
-use Rattle.std.proofs.Common.{◌≡◌, ◌⊎◌, inl, inr, ⊎_elim, ℕ, ◌^◌, ◌%◌, ◌/◌, ◌<◌, true, false, List, [], refl, sym, ap, ap₂, ◌∙◌, subst, Some, None, arith}
+use Rattle.std.proofs.Common.{◌≡◌, ◌⊎◌, inl, inr, ⊎_elim, ℕ, ◌^◌, ◌%◌, ◌<◌, true, false, List, [], refl, sym, ap, ap₂, ◌∙◌, subst, Some, None, arith}
 use Rattle.std.specs.Prelude.{is_some}
 use Rattle.id_table.specs.Ids.{at}
-use Rattle.wire_base.specs.Numbers.{u32_bytes}
-use Rattle.wire_base.specs.declared.cause.Cause.{Cause}
-use Rattle.wire_base.specs.declared.cause.Cause.TheVariants as cause
 use Rattle.l2tp_header.specs.Spelling.{control_bytes}
 use Rattle.avp_codec.specs.Spelling.{spelling}
 use Rattle.control_message.specs.declared.message.Message.{Message}
 use Rattle.control_message.specs.declared.message.Message.TheVariants.{Sccrq, Sccrp, Scccn}
-use Rattle.control_message.specs.declared.message.Opening.{Opening}
-use Rattle.control_message.specs.declared.message.Recovery.{Recovery}
 use Rattle.control_message.specs.declared.message.Suggested.{Suggested}
 use Rattle.control_message.specs.Pairs.{pairs_of, IsWritten}
 use Rattle.recv_window.specs.Window.{on_wire}
@@ -27,40 +22,11 @@ use Rattle.end_model.specs.Tunnels.{Tunnel, Recovering, ByAttempt, ByAnswer, con
 use Rattle.end_model.specs.End.{End}
 use Rattle.world_model.specs.declared.packet.Packet.{Packet}
 use Rattle.world_model.specs.World.{World, epoch_of, packet_from}
-use Rattle.step_laws.specs.Codes.{CodesFit}
 use Rattle.step_laws.specs.Letters.{AsksRecovery, ConfirmsRecovery, AnswersRecovery, StopsRecovery, IsOfRecovery}
+use Rattle.frame_laws.proofs.RecoveryLetters.{asked_for, small_request, stop_fits}
 use Rattle.connection_laws.proofs.Written.{asks_short, responds_sized, opening_written, node_again}
 use Rattle.channel_laws.specs.Accounts.{History}
 use Rattle.channel_laws.specs.Facts.{makes, AttemptOk, AnswerOk, IsRecovered, LiveOk, EndOk, SaysRecovery, AsksFor, Suggests, Confirms, Refuses, OriginOk, PacketOk, Holds}
-
--- ---- what is spelled
-
--- of a number four bytes are spelled, whatever is above them
-small_bytes : (n : ℕ) → u32_bytes (n % 4294967296) ≡ u32_bytes n
-unfolding u32_bytes
-small_bytes n =
-    let a : n % 4294967296 / 256 ^ 3 % 256 ≡ n / 256 ^ 3 % 256 = omega arith in
-    let b : n % 4294967296 / 256 ^ 2 % 256 ≡ n / 256 ^ 2 % 256 = omega arith in
-    let c : n % 4294967296 / 256 ^ 1 % 256 ≡ n / 256 ^ 1 % 256 = omega arith in
-    let d : n % 4294967296 % 256 ≡ n % 256 = omega arith in
-    rw (a, b, c, d) refl
-
--- an opening that asks for the recovery of a tunnel is spelled as one whose ids have 32 bits
-abbrev asked_for : Opening → Recovery → Opening
-asked_for o r = record o { recovery = Some r }
-
-small_request : (o : Opening) (sender receiver : ℕ) → pairs_of (Sccrq (asked_for o (record { sender = sender; receiver = receiver % 4294967296 })))
-    ≡ pairs_of (Sccrq (asked_for o (record { sender = sender; receiver = receiver })))
-small_request o sender receiver = rw (small_bytes receiver) refl
-
--- the codes of a StopCCN have 16 bits
-stop_fits : (x : Cause) → CodesFit (result_code x) (error_code x)
-stop_fits cause.Version = (omega arith, tt)
-stop_fits cause.State = (omega arith, tt)
-stop_fits cause.Secret = (omega arith, tt)
-stop_fits cause.Avp = (omega arith, omega arith)
-stop_fits cause.Mandatory = (omega arith, omega arith)
-stop_fits x = (omega arith, omega arith)
 
 -- ---- messages
 

@@ -18,6 +18,7 @@ use Rattle.world_model.specs.declared.stop.StopAt.{StopAt}
 use Rattle.world_model.specs.Texts.{Entry, Sends, HandsUp, Holds, Ends, Frames, Drops, Causes, Stopped}
 use Rattle.world_model.specs.World.{World, Node, Checkpoint, Sender, Deed, Lined, IsWhole, IsCut, with_node, with_stop, block_of, commits, fallen, without_held, after_step, cut_line, refused_by, sender_of, hand_deed, new_node, opened, line}
 use Rattle.step_laws.specs.Gone.{gone_in}
+pub use Rattle.frame_laws.specs.Frames.{IsNoDatagram}
 
 -- ---- what entries tell as gone
 
@@ -57,10 +58,6 @@ pub record Finds (old found : Node) : Type 0 where
 -- nothing, or that a frame was handed up that the node held
 abbrev pub AreHands : ℕ → List Deed → Type 0
 AreHands number ds = (ds ≡ []) ⊎ ((n : ℕ) × (r : Role) × (f : Held) × (ds ≡ hand_deed number n r f ∷ []))
-
-abbrev pub IsNoDatagram : Event → Type 0
-IsNoDatagram (Datagram peer bytes) = ⊥
-IsNoDatagram ev = Unit {0}
 
 -- what comes in a step: a packet that was sent to the node, and isn't refused; or no datagram
 pub data ComesIn (w : World) (n : ℕ) (old : Node) (ev : Event) (sender : Option Sender) : Type 0 where

@@ -1,5 +1,5 @@
 -- What holds of a world goes on to hold.
-use Rattle.std.proofs.Common.{◌≡◌, inl, inr, ⊎_elim, ℕ, zero, suc, ◌≤◌, List, [], ◌∷◌, ◌++◌, refl, sym, subst, Some, arith, ◌<◌, ◌⊎◌}
+use Rattle.std.proofs.Common.{◌≡◌, Bool, inl, inr, ⊎_elim, ℕ, zero, suc, ◌≤◌, List, [], ◌∷◌, ◌++◌, refl, sym, subst, Some, arith, ◌<◌, ◌⊎◌}
 use Rattle.std.specs.Prelude.{drop, slice_get, unwrap_or}
 use Rattle.id_table.specs.Ids.{at}
 use Rattle.id_table.specs.Order.{Ascends}
@@ -8,6 +8,9 @@ use Rattle.wire_base.specs.declared.letter.Letter.{Letter}
 use Rattle.control_message.specs.declared.message.Message.{Message}
 use Rattle.control_message.specs.declared.message.Message.TheVariants.{Sccrq, Sccrp, Scccn, StopCcn, Hello, Ocrq, Ocrp, Occn, Icrq, Icrp, Iccn, Cdn, Wen, Sli, Fsq, Fsr}
 use Rattle.end_model.specs.declared.tunnel.Call.{Call}
+use Rattle.session_book.specs.declared.record.BookTunnel.{BookTunnel}
+use Rattle.session_book.specs.declared.record.BookCall.{BookCall}
+use Rattle.session_book.specs.Books.{Kept}
 use Rattle.end_names.specs.declared.role.Role.{Role}
 use Rattle.end_names.specs.declared.role.Role.TheVariants.{Lac, Lns}
 use Rattle.world_model.specs.declared.packet.Packet.{Packet}
@@ -20,7 +23,7 @@ use Rattle.world_model.specs.World.{World, Node}
 use Rattle.frame_laws.specs.Past.{Passage}
 use Rattle.frame_laws.specs.Frames.{other_end}
 use Rattle.end_model.specs.Secrets.{uncovered_datagram}
-pub use Rattle.frame_laws.specs.Facts.{Nodes, birth_in_node, Born, role_in_node, Plays, Grows, Mates, NamesItsCall, WasSentInCall, ReadOk, BytesOk, PacketOk, KnowsItsMate, CallOk, CallsOk, LetterOk, LettersOk, TunnelOk, EndOk, NodeOk, Holds, HeldOk, HeldIsSent, StepLaws, LooksOfRuns, HeldOfRuns, FactsOfRuns}
+pub use Rattle.frame_laws.specs.Facts.{Nodes, birth_in_node, Born, role_in_node, Plays, Grows, Mates, NamesItsCall, WasSentInCall, ReadOk, BytesOk, PacketOk, KnowsItsMate, CallOk, CallsOk, SuggestsOk, RecoveryOk, FitsPair, CallBooked, BooksCall, BookOk, LetterOk, LettersOk, TunnelOk, EndOk, NodeOk, Holds, HeldOk, HeldIsSent, StepLaws, LooksOfRuns, HeldOfRuns, FactsOfRuns, CalmFactsOfRuns}
 
 pub all_map : {X : Type 0} (P Q : X → Type 0) → ((x : X) → P x → Q x) → (xs : List X) → AllByRecursion P xs → AllByRecursion Q xs
 all_map P Q f [] h = tt
@@ -55,7 +58,16 @@ other_twice Lns = refl
 
 pub swapped : (ns : Nodes) (n s m a : ℕ) → Mates ns n s m a → Mates ns m a n s
 swapped ns n s m a h =
-    record { birth = h.birth; some = h.some; here = h.there; there = h.here; role = other_end h.role; mine = h.its; its = rw (other_twice h.role) h.mine }
+    record {
+      birth = h.birth;
+      some = h.some;
+      here = h.there;
+      there = h.here;
+      role = other_end h.role;
+      mine = h.its;
+      its = rw
+          (other_twice h.role) h.mine;
+    }
 
 pub mates_later : (ns ms : Nodes) → Grows ns ms → (n s m a : ℕ) → Mates ns n s m a → Mates ms n s m a
 mates_later ns ms g n s m a h =
@@ -71,7 +83,8 @@ mates_later ns ms g n s m a h =
 
 -- ---- packets
 
-pub names_later : (ns ms : Nodes) → Grows ns ms → (from to session : ℕ) (m : Message) → NamesItsCall ns from to session m → NamesItsCall ms from to session m
+pub names_later : (ns ms : Nodes) → Grows ns ms → (from to session : ℕ) (m : Message) → NamesItsCall ns from to session m
+    → NamesItsCall ms from to session m
 names_later ns ms g from to session (Icrq own serial calling) h = ((h.0.0, h.0.1, g.births from own h.0.0 h.0.2), g.roles from Lac h.1)
 names_later ns ms g from to session (Icrp own) h = mates_later ns ms g from own to session h
 names_later ns ms g from to session (Cdn own code error) h = ⊎_elim (λ a. inl a) (λ k. inr (told_later k)) h
@@ -116,26 +129,31 @@ sent_in_call_later ns ms g gs hs from to session frame h =
       to_is = h.to_is;
     }
 
-read_later : (ns ms : Nodes) → Grows ns ms → (gs hs : List Passage) (from to : ℕ) (bytes : List ℕ) → ReadOk ns gs from to bytes
-    → ReadOk ms (gs ++ hs) from to bytes
-read_later ns ms g gs hs from to bytes h =
+read_later : (calm : Bool) (ns ms : Nodes) → Grows ns ms → (gs hs : List Passage) (from to : ℕ) (bytes : List ℕ)
+    → ReadOk calm ns gs from to bytes
+    → ReadOk calm ms (gs ++ hs) from to bytes
+read_later calm ns ms g gs hs from to bytes h =
     record {
       frames = λ x e c. sent_in_call_later ns ms g gs hs from to x.session _ (h.frames x e c);
       letters = λ x e c m r. let l = h.letters x e c m r in (l.0, names_later ns ms g from to x.session m l.1);
+      plainly = h.plainly;
       faulty = h.faulty;
       told = h.told;
       zero = h.zero;
     }
 
-pub bytes_later : (ns ms : Nodes) → Grows ns ms → (gs hs : List Passage) (from to : ℕ) (bytes : List ℕ) → BytesOk ns gs from to bytes
-    → BytesOk ms (gs ++ hs) from to bytes
-bytes_later ns ms g gs hs from to bytes h secret = read_later ns ms g gs hs from to (uncovered_datagram secret bytes) (h secret)
+pub bytes_later : (calm : Bool) (ns ms : Nodes) → Grows ns ms → (gs hs : List Passage) (from to : ℕ) (bytes : List ℕ)
+    → BytesOk calm ns gs from to bytes
+    → BytesOk calm ms (gs ++ hs) from to bytes
+bytes_later calm ns ms g gs hs from to bytes h secret = read_later calm ns ms g gs hs from to (uncovered_datagram secret bytes) (h secret)
 
-pub packets_later : (ns ms : Nodes) → Grows ns ms → (gs hs : List Passage) (ps : List Packet) → AllByRecursion (PacketOk ns gs) ps
-    → AllByRecursion (PacketOk ms (gs ++ hs)) ps
-packets_later ns ms g gs hs [] h = tt
-packets_later ns ms g gs hs (p ∷ ps) h =
-    (record { from = h.0.from; bytes = bytes_later ns ms g gs hs p.from p.to p.bytes h.0.bytes }, packets_later ns ms g gs hs ps h.1)
+pub packets_later : (calm : Bool) (ns ms : Nodes) → Grows ns ms → (gs hs : List Passage) (ps : List Packet)
+    → AllByRecursion (PacketOk calm ns gs) ps
+    → AllByRecursion (PacketOk calm ms (gs ++ hs)) ps
+packets_later calm ns ms g gs hs [] h = tt
+packets_later calm ns ms g gs hs (p ∷ ps) h =
+    let bytes = bytes_later calm ns ms g gs hs p.from p.to p.bytes h.0.bytes in
+    (record { from = h.0.from; bytes = bytes }, packets_later calm ns ms g gs hs ps h.1)
 
 -- ---- ends
 
@@ -153,8 +171,9 @@ call_later ns ms g n role bound more peer s c le h =
       link = h.link;
     }
 
-pub letter_later : (ns ms : Nodes) → Grows ns ms → (n peer : ℕ) (l : Letter) → LetterOk ns n peer l → LetterOk ms n peer l
-letter_later ns ms g n peer l h =
+pub letter_later : (calm : Bool) (ns ms : Nodes) → Grows ns ms → (n peer : ℕ) (l : Letter) → LetterOk calm ns n peer l
+    → LetterOk calm ms n peer l
+letter_later calm ns ms g n peer l h =
     record {
       message = h.message;
       hidden = h.hidden;
@@ -162,28 +181,34 @@ letter_later ns ms g n peer l h =
       spelt = h.spelt;
       session = h.session;
       written = h.written;
+      plainly = h.plainly;
       names = names_later ns ms g n (node_of peer) l.session h.message h.names;
     }
 
-pub letters_later : (ns ms : Nodes) → Grows ns ms → (n peer : ℕ) (ls : List Letter) → LettersOk ns n peer ls → LettersOk ms n peer ls
-letters_later ns ms g n peer ls h = all_map (LetterOk ns n peer) (LetterOk ms n peer) (λ l k. letter_later ns ms g n peer l k) ls h
+pub letters_later : (calm : Bool) (ns ms : Nodes) → Grows ns ms → (n peer : ℕ) (ls : List Letter) → LettersOk calm ns n peer ls
+    → LettersOk calm ms n peer ls
+letters_later calm ns ms g n peer ls h = all_map (LetterOk calm ns n peer) (LetterOk calm ms n peer)
+    (λ l k. letter_later calm ns ms g n peer l k) ls h
 
-pub tunnel_later : (ns ms : Nodes) → Grows ns ms → (n : ℕ) (e x : End) (i : ℕ) (t : Tunnel) → x.role ≡ e.role → e.tunnel_ids.next ≤ x.tunnel_ids.next
-    → e.session_ids.next ≤ x.session_ids.next → TunnelOk ns n e i t → TunnelOk ms n x i t
-tunnel_later ns ms g n e x i t role le more h =
+pub tunnel_later : (calm : Bool) (ns ms : Nodes) → Grows ns ms → (n : ℕ) (e x : End) (i : ℕ) (t : Tunnel) → x.role ≡ e.role
+    → e.tunnel_ids.next ≤ x.tunnel_ids.next
+    → e.session_ids.next ≤ x.session_ids.next → TunnelOk calm ns n e i t → TunnelOk calm ms n x i t
+tunnel_later calm ns ms g n e x i t role le more h =
     record {
       local = h.local;
       drawn = (let d = h.drawn in omega arith);
       remote = h.remote;
-      letters = letters_later ns ms g n t.control.peer t.letters h.letters;
+      letters = letters_later calm ns ms g n t.control.peer t.letters h.letters;
       calls = λ s c f. rw role (call_later ns ms g n e.role e.session_ids.next x.session_ids.next t.control.peer s c more (h.calls s c f));
       order = h.order;
+      line = h.line;
+      asked = h.asked;
       recovery = h.recovery;
       query = h.query;
     }
 
-pub end_later : (ns ms : Nodes) → Grows ns ms → (n : ℕ) (e : End) → EndOk ns n e → EndOk ms n e
-end_later ns ms g n e h =
+pub end_later : (calm : Bool) (ns ms : Nodes) → Grows ns ms → (n : ℕ) (e : End) → EndOk calm ns n e → EndOk calm ms n e
+end_later calm ns ms g n e h =
     record {
       number = h.number;
       first = h.first;
@@ -192,12 +217,46 @@ end_later ns ms g n e h =
       first_session = h.first_session;
       last_session = h.last_session;
       most = h.most;
-      tunnels = λ i t f. tunnel_later ns ms g n e e i t refl (omega arith) (omega arith) (h.tunnels i t f);
+      last_draw = h.last_draw;
+      tunnels = λ i t f. tunnel_later calm ns ms g n e e i t refl (omega arith) (omega arith) (h.tunnels i t f);
       order = h.order;
     }
 
-pub node_later : (ns ms : Nodes) → Grows ns ms → (n : ℕ) (node : Node) → NodeOk ns n node → NodeOk ms n node
-node_later ns ms g n node h = record { number = h.number; kept = h.kept; looks = h.looks; end = end_later ns ms g n node.end h.end; births = h.births }
+call_booked_later : (ns ms : Nodes) → Grows ns ms → (n peer : ℕ) (c : BookCall) → CallBooked ns n peer c → CallBooked ms n peer c
+call_booked_later ns ms g n peer c h = record { remote = h.remote; mate = mates_later ns ms g n c.local (node_of peer) c.remote h.mate }
+
+pub book_later : (ns ms : Nodes) → Grows ns ms → (n : ℕ) (k : Kept) → BookOk ns n k → BookOk ms n k
+book_later ns ms g n k h = record {
+  tunnels = h.tunnels;
+  calls = all_map (BooksCall ns n k.tunnels) (BooksCall ms n k.tunnels)
+      (λ c all. all_map (λ (b : BookTunnel). b.local ≡ c.tunnel → CallBooked ns n b.peer c)
+      (λ (b : BookTunnel). b.local ≡ c.tunnel → CallBooked ms n b.peer c)
+      (λ b is same. call_booked_later ns ms g n b.peer c (is same)) k.tunnels all)
+      k.calls h.calls;
+}
+
+pub node_later : (calm : Bool) (ns ms : Nodes) → Grows ns ms → (n : ℕ) (node : Node) → NodeOk calm ns n node → NodeOk calm ms n node
+node_later calm ns ms g n node h = record {
+  number = h.number;
+  kept = h.kept;
+  looks = h.looks;
+  end = end_later calm ns ms g n node.end h.end;
+  book = book_later ns ms g n node.checkpoint.book h.book;
+  births = h.births;
+}
+
+-- so it is of one that differs in what the world keeps of its tunnels alone
+pub node_like_ok : (calm : Bool) (ns : Nodes) (n : ℕ) (node more : Node) → more.end ≡ node.end → more.births ≡ node.births
+    → more.checkpoint ≡ node.checkpoint
+    → NodeOk calm ns n node → NodeOk calm ns n more
+node_like_ok calm ns n node more end births checkpoint h = record {
+  number = h.number;
+  kept = rw end h.kept;
+  looks = rw end h.looks;
+  end = rw end h.end;
+  book = rw checkpoint h.book;
+  births = rw (end, births) h.births;
+}
 
 -- ---- frames that are held
 
@@ -216,10 +275,13 @@ held_ok_later ns ms g gs hs n f h =
     }
 
 -- where no frame more is held
-pub held_later : (w v : World) → v.held ≡ w.held → Grows w.nodes v.nodes → (gs hs : List Passage) → HeldIsSent w gs → HeldIsSent v (gs ++ hs)
+pub held_later : (w v : World) → v.held ≡ w.held → Grows w.nodes v.nodes → (gs hs : List Passage) → HeldIsSent w gs
+    → HeldIsSent v (gs ++ hs)
 held_later w v same g gs hs h =
     record {
       sent = λ n number f there.
-          held_ok_later w.nodes v.nodes g gs hs n f (h.sent n number f (subst (λ (t : List (ℕ × List (ℕ × Held))). at (unwrap_or (at t n) []) number ≡ Some f) same there));
+          held_ok_later w.nodes v.nodes g gs hs n f
+          (h.sent n number f (subst (λ (t : List (ℕ × List (ℕ × Held))). at (unwrap_or (at t n) []) number ≡ Some f) same there));
       order = λ n. subst (λ (t : List (ℕ × List (ℕ × Held))). Ascends (unwrap_or (at t n) [])) (sym same) (h.order n);
+      nodes = subst Ascends (sym same) h.nodes;
     }

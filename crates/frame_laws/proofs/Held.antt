@@ -149,14 +149,16 @@ look_from role (Established tunnel peer) from h frame t q s g is = known_from ro
 -- ---- a load
 
 -- the frame of a packet that was sent was sent in the call of its session, whatever is done with it
-module _ (w : World) (gs : List Passage) (n : ℕ) (o : Option Packet) (f : Held) (is : IsLoaded w n o f) (ok : PacketOk w.nodes gs is.packet) where
+module _ (calm : Bool) (w : World) (gs : List Passage) (n : ℕ) (o : Option Packet) (f : Held) (is : IsLoaded w n o f)
+    (ok : PacketOk calm w.nodes gs is.packet) where
   original : WasSentInCall w.nodes gs is.packet.from n is.header.session (frame_of (body_of is.packet.bytes is.header))
   unfolding uncovered_datagram
   original = subst (λ k. WasSentInCall w.nodes gs is.packet.from k is.header.session (frame_of (body_of is.packet.bytes is.header))) is.to
       ((ok.bytes None).frames is.header is.read is.plain)
 
   from : (f.peer ≡ address_of is.packet.from) × (f.frame ≡ frame_of (body_of is.packet.bytes is.header))
-  from = look_from is.node.end.role _ (address_of is.packet.from) is.header (frame_of (body_of is.packet.bytes is.header)) f.tunnel f.peer f.side f.frame is.carried
+  from = look_from is.node.end.role _ (address_of is.packet.from) is.header
+      (frame_of (body_of is.packet.bytes is.header)) f.tunnel f.peer f.side f.frame is.carried
 
   birth : f.birth ≡ original.passage.birth
   birth = is.birth ∙ birth_is w n is.header.session original.passage.birth original.birth
@@ -189,11 +191,13 @@ put_there : (t : Tables) (n : ℕ) (fs : List (ℕ × Held)) (m : ℕ) → (m �
 put_there t n fs m o = rw (at_other t n fs m o) refl
 
 -- the frames of one node are others
-module _ (w v : World) (gs : List Passage) (h : HeldIsSent w gs) (n : ℕ) (fs : List (ℕ × Held)) (nodes : v.nodes ≡ w.nodes) (held : v.held ≡ put w.held n fs)
+module _ (w v : World) (gs : List Passage) (h : HeldIsSent w gs) (n : ℕ) (fs : List (ℕ × Held)) (nodes : v.nodes ≡ w.nodes)
+    (held : v.held ≡ put w.held n fs)
     (order : Ascends fs) (each : (number : ℕ) (f : Held) → at fs number ≡ Some f → HeldOk w.nodes gs n f) where
   at_mine : (m number : ℕ) (f : Held) → m ≡ n → at (held_in (put w.held n fs) m) number ≡ Some f → HeldOk w.nodes gs m f
   at_mine m number f e there =
-      subst (λ k. HeldOk w.nodes gs k f) (sym e) (each number f (subst (λ (t : List (ℕ × Held)). at t number ≡ Some f) (put_here w.held n fs m e) there))
+      subst (λ k. HeldOk w.nodes gs k f) (sym e)
+      (each number f (subst (λ (t : List (ℕ × Held)). at t number ≡ Some f) (put_here w.held n fs m e) there))
 
   at_its : (m number : ℕ) (f : Held) → (m ≡ n → ⊥) → at (held_in (put w.held n fs) m) number ≡ Some f → HeldOk w.nodes gs m f
   at_its m number f o there = h.sent m number f (subst (λ (t : List (ℕ × Held)). at t number ≡ Some f) (put_there w.held n fs m o) there)
@@ -207,10 +211,12 @@ module _ (w v : World) (gs : List Passage) (h : HeldIsSent w gs) (n : ℕ) (fs :
     order = λ m. subst (λ (t : Tables). Ascends (held_in t m)) (sym held)
         (⊎_elim (λ (e : m ≡ n). subst Ascends (sym (put_here w.held n fs m e)) order)
         (λ o. subst Ascends (sym (put_there w.held n fs m o)) (h.order m)) (same_or_not m n));
+    nodes = subst Ascends (sym held) (ascends-put n fs w.held h.nodes);
   }
 
 -- one more
-pub one_more_held : (w : World) (gs : List Passage) → HeldIsSent w gs → (number n : ℕ) (f : Held) → HeldOk w.nodes gs n f → HeldIsSent (held_line w number n f).world gs
+pub one_more_held : (w : World) (gs : List Passage) → HeldIsSent w gs → (number n : ℕ) (f : Held) → HeldOk w.nodes gs n f
+    → HeldIsSent (held_line w number n f).world gs
 unfolding held_line
 one_more_held w gs h number n f ok =
     held_changed w (held_line w number n f).world gs h n (put (held_at w n) (held_line w number n f).world.loads f) refl refl

@@ -32,8 +32,8 @@ whole (Fsq sessions) w = absurd w
 whole (Fsr sessions) w = absurd w
 whole m w = w
 
--- each end reads it
-pub is_read : (m : Message) → IsWritten m → IsKnownTo m Queries
-is_read (Fsq sessions) w = absurd w
-is_read (Fsr sessions) w = absurd w
-is_read m w = tt
+-- each end reads all that is written
+pub whole_read : (m : Message) → IsKnownTo m Queries
+whole_read (Fsq sessions) = tt
+whole_read (Fsr sessions) = tt
+whole_read m = tt

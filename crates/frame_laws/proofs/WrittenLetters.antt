@@ -21,6 +21,7 @@ use Rattle.end_model.specs.Messages.{opening_of, request_of}
 use Rattle.step_laws.specs.Moves.{Asks, Responds}
 use Rattle.frame_laws.specs.Plain.{HidesOk}
 use Rattle.frame_laws.specs.Written.{IsWritten, IsWrittenOpening}
+use Rattle.frame_laws.proofs.Whole.{whole}
 use Rattle.frame_laws.proofs.Facts.{Nodes, NamesItsCall, CallsOk, LetterOk, LettersOk, all_push}
 
 -- ---- messages that are written
@@ -38,13 +39,16 @@ pub asks_short : (secret challenge : Option (List ℕ)) → Asks secret challeng
 asks_short None challenge is = rw is tt
 asks_short (Some s) challenge is = let sized = is.2 in rw is.1 (omega (arith, sized))
 
-pub responds_sized : (kind : ℕ) (secret asked response : Option (List ℕ)) → Responds kind secret asked response → IfSome response (λ v. length v ≡ 16)
+pub responds_sized : (kind : ℕ) (secret asked response : Option (List ℕ)) → Responds kind secret asked response
+    → IfSome response (λ v. length v ≡ 16)
 responds_sized kind None asked response is = rw is tt
 responds_sized kind (Some s) None response is = rw is tt
 responds_sized kind (Some s) (Some a) response is = rw is (length-md5 (kind ∷ s ++ a))
 
-pub opening_written : (r : Role) (c : Config) (challenge response : Option (List ℕ)) (local : ℕ) → c.number < 256 → 0 < local → local < 65536
-    → IfSome challenge (λ v. length v ≤ 1017) → IfSome response (λ v. length v ≡ 16) → IsWrittenOpening (opening_of r c challenge response local)
+pub opening_written : (r : Role) (c : Config) (challenge response : Option (List ℕ)) (local : ℕ) → c.number < 256 → 0 < local
+    → local < 65536
+    → IfSome challenge (λ v. length v ≤ 1017) → IfSome response (λ v. length v ≡ 16)
+    → IsWrittenOpening (opening_of r c challenge response local)
 opening_written r c challenge response local lt some fits short sized =
     record {
       version = refl;
@@ -62,7 +66,8 @@ opening_written r c challenge response local lt some fits short sized =
       attempt = refl;
     }
 
-pub request_written : ((who : List ℕ) → length (calling_number who) ≡ 12) → (s : ℕ) (who : List ℕ) → s < 65536 → IsWritten (request_of s who)
+pub request_written : ((who : List ℕ) → length (calling_number who) ≡ 12) → (s : ℕ) (who : List ℕ) → s < 65536
+    → IsWritten (request_of s who)
 request_written digits s who fits = (omega arith, omega arith, (let d = digits who in omega arith))
 
 pub asked_remote : (r : Role) (remote moment : ℕ) → (asked_for r remote moment).remote ≡ remote
@@ -99,15 +104,35 @@ learnt window c = by (window == 0)
     by false = record { local = refl; peer = refl; remote = refl }
 
 -- a letter, plain or not
-pub letter_ok : (ns : Nodes) (n peer session : ℕ) (m : Message) (hidden : Option (List ℕ)) → HidesOk m hidden → session < 65536 → IsWritten m
-    → NamesItsCall ns n (node_of peer) session m → LetterOk ns n peer (letter_as session m hidden)
-letter_ok ns n peer session m None hides fits written names =
-    record { message = m; hidden = None; hides = hides; spelt = refl; session = fits; written = written; names = names }
-letter_ok ns n peer session m (Some pairs) hides fits written names =
-    record { message = m; hidden = Some pairs; hides = hides; spelt = refl; session = fits; written = written; names = names }
+pub letter_ok : (calm : Bool) (ns : Nodes) (n peer session : ℕ) (m : Message) (hidden : Option (List ℕ)) → HidesOk m hidden
+    → session < 65536 → IsWritten m
+    → NamesItsCall ns n (node_of peer) session m → LetterOk calm ns n peer (letter_as session m hidden)
+letter_ok calm ns n peer session m None hides fits written names =
+    record {
+      message = m;
+      hidden = None;
+      hides = hides;
+      spelt = refl;
+      session = fits;
+      written = whole m written;
+      plainly = λ still. written;
+      names = names;
+    }
+letter_ok calm ns n peer session m (Some pairs) hides fits written names =
+    record {
+      message = m;
+      hidden = Some pairs;
+      hides = hides;
+      spelt = refl;
+      session = fits;
+      written = whole m written;
+      plainly = λ still. written;
+      names = names;
+    }
 
 -- one more letter is given
-pub one_more : (ns : Nodes) (n peer : ℕ) (ls : List Letter) → LettersOk ns n peer ls → (session : ℕ) (m : Message) → session < 65536 → IsWritten m
-    → NamesItsCall ns n (node_of peer) session m → LettersOk ns n peer (ls ++ letter_of session m ∷ [])
-one_more ns n peer ls olds session m fits written names =
-    all_push (LetterOk ns n peer) ls (letter_of session m) olds (letter_ok ns n peer session m None tt fits written names)
+pub one_more : (calm : Bool) (ns : Nodes) (n peer : ℕ) (ls : List Letter) → LettersOk calm ns n peer ls → (session : ℕ) (m : Message)
+    → session < 65536 → IsWritten m
+    → NamesItsCall ns n (node_of peer) session m → LettersOk calm ns n peer (ls ++ letter_of session m ∷ [])
+one_more calm ns n peer ls olds session m fits written names =
+    all_push (LetterOk calm ns n peer) ls (letter_of session m) olds (letter_ok calm ns n peer session m None tt fits written names)

@@ -6,7 +6,6 @@ use Rattle.schedule_text.specs.Grammar.{AreLines}
 use Rattle.end_names.specs.declared.role.Role.TheVariants.{Lac}
 use Rattle.world_model.specs.World.{World, Node}
 use Rattle.world_model.specs.Run.{run}
-use Rattle.step_laws.specs.Calm.{AreCalm}
 
 -- the session of a LAC has this birth
 pub record IsBornAt (w : World) (n session birth : ℕ) : Type 0 where
@@ -19,6 +18,6 @@ pub record IsBornAt (w : World) (n session birth : ℕ) : Type 0 where
 abbrev pub AreApart : World → Type 0
 AreApart w = (birth n session m other : ℕ) → IsBornAt w n session birth → IsBornAt w m other birth → (n ≡ m) × (session ≡ other)
 
--- after the run of each list of lines of the grammar, where no node crashes, is to stop, or starts; births are counted in 64 bits, and session ids have 16
+-- after the run of each list of lines of the grammar, whatever crashes; births are counted in 64 bits, and session ids have 16
 abbrev pub BirthsOfRuns : Type 0
-BirthsOfRuns = (lines : List Line) → AreLines lines → AreCalm lines → length lines < 2 ^ 47 → AreApart (run lines).world
+BirthsOfRuns = (lines : List Line) → AreLines lines → length lines < 2 ^ 47 → AreApart (run lines).world

@@ -10,6 +10,7 @@ use Rattle.control_message.specs.declared.message.Message.{Message}
 use Rattle.control_message.specs.declared.message.Read.TheVariants.{Known}
 use Rattle.control_message.specs.HiddenRequests.{HiddenRequestsAreRead}
 use Rattle.control_message.specs.Pairs.{pairs_of}
+use Rattle.control_message.specs.Pairs as codec
 use Rattle.end_model.specs.Reading.{message_said}
 use Rattle.end_names.specs.Names.{calling_number}
 use Rattle.frame_laws.specs.Written.{IsWritten}
@@ -22,6 +23,10 @@ pub record Codecs : Type 0 where
       → Carries (data_bytes tunnel session number frame) (data_header tunnel session number (2 + length frame)) (hdlc_bytes frame)
   pub message : (m : Message) → IsWritten m
       → (avps_of (spelling (pairs_of m)) ≡ Ok (pairs_of m)) × (message_said (pairs_of m) ≡ Ok (Known m))
+  -- so are those that tell of a recovery, and the queries of sessions
+  pub whole : (m : Message) → codec.IsWritten m
+      → (avps_of (spelling (pairs_of m)) ≡ Ok (pairs_of m)) × (message_said (pairs_of m) ≡ Ok (Known m))
+  pub whole_room : (m : Message) → codec.IsWritten m → length (spelling (pairs_of m)) ≤ 65523
   pub pairs : (v : List Avp) → AreAvps v → avps_of (spelling v) ≡ Ok v
   pub room : (m : Message) → IsWritten m → length (spelling (pairs_of m)) ≤ 65523
   pub hidden : HiddenRequestsAreRead

@@ -1,11 +1,15 @@
--- What holds of a world after each line: what births there are, what packets may say, and what ends know.
-use Rattle.std.proofs.Common.{◌≡◌, ◌⊎◌, ℕ, ◌<◌, ◌≤◌, true, false, List, Option, Some, None, Ok}
+-- What holds of a world after each line, whatever crashes: what births there are, what packets may say, what ends know, and what their
+-- books have. Where no line crashes a node, stops one or starts one, nothing is recovered, and no session is asked for: that is said
+-- beside it, of a world that is `calm`.
+use Rattle.std.proofs.Common.{◌≡◌, ◌⊎◌, ℕ, ◌<◌, ◌≤◌, ◌^◌, Bool, true, false, List, Option, Some, None, Ok}
 use Rattle.std.specs.List.{AllByRecursion}
 use Rattle.id_table.specs.Ids.{at}
 use Rattle.id_table.specs.Order.{Ascends}
 use Rattle.wire_base.specs.declared.letter.Letter.{Letter}
+use Rattle.wire_base.specs.declared.pair.Pair.{Pair}
 use Rattle.l2tp_header.specs.declared.header.Header.{Header}
 use Rattle.l2tp_header.specs.Reading.{header_of, body_of}
+use Rattle.control_message.specs.Pairs as codec
 use Rattle.control_message.specs.declared.message.Message.{Message}
 use Rattle.control_message.specs.declared.message.Message.TheVariants.{Sccrq, Sccrp, Scccn, StopCcn, Hello, Ocrq, Ocrp, Occn, Icrq, Icrp, Iccn, Cdn, Wen, Sli, Fsq, Fsr}
 use Rattle.end_model.specs.declared.tunnel.Call.{Call}
@@ -13,7 +17,7 @@ use Rattle.end_names.specs.declared.role.Role.{Role}
 use Rattle.end_names.specs.declared.role.Role.TheVariants.{Lac, Lns}
 use Rattle.world_model.specs.declared.packet.Packet.{Packet}
 use Rattle.end_names.specs.Names.{node_of}
-use Rattle.end_model.specs.Tunnels.{Tunnel, no_query}
+use Rattle.end_model.specs.Tunnels.{Tunnel, no_query, Recovering, ByAttempt, ByAnswer, connection_of}
 use Rattle.end_model.specs.declared.event.Addressee.TheVariants.{Opens, Answers}
 use Rattle.end_model.specs.Secrets.{uncovered_datagram}
 use Rattle.end_model.specs.Channels.{letter_as}
@@ -23,9 +27,15 @@ use Rattle.end_model.specs.Calls.{is_up}
 use Rattle.end_model.specs.End.{End}
 use Rattle.step_laws.specs.Calm.{AreCalm}
 use Rattle.step_laws.specs.Letters.{Among}
-use Rattle.step_laws.specs.Looks.{LooksAreTrue, LooksStayTrue}
+use Rattle.step_laws.specs.Looks.{LooksAreTrue, LooksStayTrue, LooksBeginTrue}
 use Rattle.step_laws.specs.Steps.{AreKept, StepsAreChains, StepsAreNoStarts}
 use Rattle.step_laws.specs.Ups.{UpsAreMoves}
+use Rattle.step_laws.specs.Starts.{StartsAreChains, StartsAreOfBooks}
+use Rattle.book_laws.specs.Books.{StepsAreBooked, NewEndsAreBooked}
+use Rattle.book_laws.specs.Starts.{StartsAreBooked, StartsSendOnly}
+use Rattle.session_book.specs.declared.record.BookTunnel.{BookTunnel}
+use Rattle.session_book.specs.declared.record.BookCall.{BookCall}
+use Rattle.session_book.specs.Books.{Kept}
 use Rattle.schedule_text.specs.declared.line.Line.{Line}
 use Rattle.schedule_text.specs.Grammar.{AreLines}
 use Rattle.world_model.specs.declared.held.Held.{Held}
@@ -107,26 +117,31 @@ pub record WasSentInCall (ns : Nodes) (gs : List Passage) (from to session : ℕ
   pub to_is : passage.peer ≡ to
 
 -- what reading bytes may give
-pub record ReadOk (ns : Nodes) (gs : List Passage) (from to : ℕ) (bytes : List ℕ) : Type 0 where
-  pub frames : (h : Header) → header_of bytes ≡ Ok h → h.control ≡ false → WasSentInCall ns gs from to h.session (frame_of (body_of bytes h))
+pub record ReadOk (calm : Bool) (ns : Nodes) (gs : List Passage) (from to : ℕ) (bytes : List ℕ) : Type 0 where
+  pub frames : (h : Header) → header_of bytes ≡ Ok h → h.control ≡ false
+      → WasSentInCall ns gs from to h.session (frame_of (body_of bytes h))
   pub letters : (h : Header) → header_of bytes ≡ Ok h → h.control ≡ true → (m : Message) → message_in (body_of bytes h) ≡ Ok m
-      → IsWritten m × NamesItsCall ns from to h.session m
+      → codec.IsWritten m × NamesItsCall ns from to h.session m
+  -- where nothing is recovered it tells of no recovery, and is no query of sessions
+  pub plainly : calm ≡ true → (h : Header) → header_of bytes ≡ Ok h → h.control ≡ true → (m : Message)
+      → message_in (body_of bytes h) ≡ Ok m → IsWritten m
   -- a message about a call that has a fault tells a session id of 16 bits
   pub faulty : (h : Header) → header_of bytes ≡ Ok h → h.control ≡ true → (f : CallFault) → call_fault_in (body_of bytes h) ≡ Some f
       → (own : ℕ) × (f.session ≡ Some own) × (own < 65536)
   -- one that has another fault tells no tunnel id of more than 16 bits
-  pub told : (h : Header) → header_of bytes ≡ Ok h → h.control ≡ true → (g : TunnelFault) → tunnel_fault_in (body_of bytes h) ≡ Some g → g.remote < 65536
+  pub told : (h : Header) → header_of bytes ≡ Ok h → h.control ≡ true → (g : TunnelFault) → tunnel_fault_in (body_of bytes h) ≡ Some g
+      → g.remote < 65536
   -- nor does one that would open a tunnel, or answer an opening, where it comes to none
   pub zero : (h : Header) → header_of bytes ≡ Ok h → h.control ≡ true → (i : ℕ)
       → (at_zero (body_of bytes h) ≡ Opens i) ⊎ (at_zero (body_of bytes h) ≡ Answers i) → i < 65536
 
 -- so it is with the bytes of a packet, whatever secret they are read with
-abbrev pub BytesOk : Nodes → List Passage → ℕ → ℕ → List ℕ → Type 0
-BytesOk ns gs from to bytes = (secret : Option (List ℕ)) → ReadOk ns gs from to (uncovered_datagram secret bytes)
+abbrev pub BytesOk : Bool → Nodes → List Passage → ℕ → ℕ → List ℕ → Type 0
+BytesOk calm ns gs from to bytes = (secret : Option (List ℕ)) → ReadOk calm ns gs from to (uncovered_datagram secret bytes)
 
-pub record PacketOk (ns : Nodes) (gs : List Passage) (p : Packet) : Type 0 where
+pub record PacketOk (calm : Bool) (ns : Nodes) (gs : List Passage) (p : Packet) : Type 0 where
   pub from : p.from < 256
-  pub bytes : BytesOk ns gs p.from p.to p.bytes
+  pub bytes : BytesOk calm ns gs p.from p.to p.bytes
 
 -- ---- ends
 
@@ -150,30 +165,50 @@ abbrev pub CallsOk : Nodes → ℕ → Role → ℕ → ℕ → List (ℕ × Cal
 CallsOk ns n role bound peer calls = (s : ℕ) (c : Call) → at calls s ≡ Some c → CallOk ns n role bound peer s c
 
 -- a letter that a tunnel to a peer keeps spells a message that is written, plainly or with its number hidden, and that names its call
-pub record LetterOk (ns : Nodes) (n peer : ℕ) (l : Letter) : Type 0 where
+pub record LetterOk (calm : Bool) (ns : Nodes) (n peer : ℕ) (l : Letter) : Type 0 where
   pub message : Message
   pub hidden : Option (List ℕ)
   pub hides : HidesOk message hidden
   pub spelt : l.avps ≡ (letter_as l.session message hidden).avps
   pub session : l.session < 65536
-  pub written : IsWritten message
+  pub written : codec.IsWritten message
+  pub plainly : calm ≡ true → IsWritten message
   pub names : NamesItsCall ns n (node_of peer) l.session message
 
-abbrev pub LettersOk : Nodes → ℕ → ℕ → List Letter → Type 0
-LettersOk ns n peer letters = AllByRecursion (LetterOk ns n peer) letters
+abbrev pub LettersOk : Bool → Nodes → ℕ → ℕ → List Letter → Type 0
+LettersOk calm ns n peer letters = AllByRecursion (LetterOk calm ns n peer) letters
 
-pub record TunnelOk (ns : Nodes) (n : ℕ) (e : End) (i : ℕ) (t : Tunnel) : Type 0 where
+-- the numbers that an answer to an attempt suggests have 16 bits
+abbrev pub SuggestsOk : Recovering → Type 0
+SuggestsOk (ByAttempt c) = Unit {0}
+SuggestsOk (ByAnswer a) = (a.suggested.ns < 65536) × (a.suggested.nr < 65536)
+
+-- what a recovery tunnel says may be read
+pub record RecoveryOk (r : Recovering) : Type 0 where
+  pub some : 0 < (connection_of r).local
+  pub local : (connection_of r).local < 65536
+  pub remote : (connection_of r).remote < 65536
+  pub draw : (connection_of r).draw < 2 ^ 32
+  pub suggests : SuggestsOk r
+
+-- the ids of a session that is asked for have 16 bits
+abbrev pub FitsPair : Pair → Type 0
+FitsPair p = (p.sender < 65536) × (p.receiver < 65536)
+
+pub record TunnelOk (calm : Bool) (ns : Nodes) (n : ℕ) (e : End) (i : ℕ) (t : Tunnel) : Type 0 where
   pub local : t.control.local ≡ i
   pub drawn : i < e.tunnel_ids.next
   pub remote : t.control.remote < 65536
-  pub letters : LettersOk ns n t.control.peer t.letters
+  pub letters : LettersOk calm ns n t.control.peer t.letters
   pub calls : CallsOk ns n e.role e.session_ids.next t.control.peer t.calls
   pub order : Ascends t.calls
-  -- nobody recovers it, and it asks for no session
-  pub recovery : t.recovery ≡ None
-  pub query : t.query ≡ no_query
+  pub line : (r : Recovering) → t.recovery ≡ Some r → RecoveryOk r
+  pub asked : AllByRecursion FitsPair t.query.pairs
+  -- where nothing is recovered, nobody recovers it, and it asks for no session
+  pub recovery : calm ≡ true → t.recovery ≡ None
+  pub query : calm ≡ true → t.query ≡ no_query
 
-pub record EndOk (ns : Nodes) (n : ℕ) (e : End) : Type 0 where
+pub record EndOk (calm : Bool) (ns : Nodes) (n : ℕ) (e : End) : Type 0 where
   pub number : e.config.number < 256
   pub first : 0 < e.tunnel_ids.next
   pub last : e.tunnel_ids.last < 65536
@@ -181,21 +216,41 @@ pub record EndOk (ns : Nodes) (n : ℕ) (e : End) : Type 0 where
   pub first_session : 0 < e.session_ids.next
   pub last_session : e.session_ids.last < 65536
   pub most : e.session_ids.next ≤ 65536
-  pub tunnels : (i : ℕ) (t : Tunnel) → at e.tunnels i ≡ Some t → TunnelOk ns n e i t
+  pub last_draw : e.recovery_ids.last < 2 ^ 32
+  pub tunnels : (i : ℕ) (t : Tunnel) → at e.tunnels i ≡ Some t → TunnelOk calm ns n e i t
   pub order : Ascends e.tunnels
 
-pub record NodeOk (ns : Nodes) (n : ℕ) (node : Node) : Type 0 where
+-- ---- books
+
+-- what a book has of a call, in one of its tunnels, which goes to a peer: the session of the other end is its mate
+pub record CallBooked (ns : Nodes) (n peer : ℕ) (c : BookCall) : Type 0 where
+  pub remote : c.remote < 65536
+  pub mate : Mates ns n c.local (node_of peer) c.remote
+
+-- so it is of each call in each of the tunnels that is its own
+abbrev pub BooksCall : Nodes → ℕ → List BookTunnel → BookCall → Type 0
+BooksCall ns n ts c = AllByRecursion (λ (b : BookTunnel). b.local ≡ c.tunnel → CallBooked ns n b.peer c) ts
+
+pub record BookOk (ns : Nodes) (n : ℕ) (k : Kept) : Type 0 where
+  pub tunnels : AllByRecursion (λ (b : BookTunnel). b.remote < 65536) k.tunnels
+  pub calls : AllByRecursion (BooksCall ns n k.tunnels) k.calls
+
+-- ---- nodes
+
+-- a node that is down is an end without tunnels, and its book is all that is left
+pub record NodeOk (calm : Bool) (ns : Nodes) (n : ℕ) (node : Node) : Type 0 where
   pub number : n < 256
   pub kept : AreKept node.end
   pub looks : LooksAreTrue node.end
-  pub end : EndOk ns n node.end
+  pub end : EndOk calm ns n node.end
+  pub book : BookOk ns n node.checkpoint.book
   pub births : (s b : ℕ) → at node.births s ≡ Some b → (s < node.end.session_ids.next) × (0 < b)
 
 -- ---- the world
 
-pub record Holds (w : World) (gs : List Passage) : Type 0 where
-  pub nodes : (n : ℕ) (node : Node) → at w.nodes n ≡ Some node → NodeOk w.nodes n node
-  pub packets : AllByRecursion (PacketOk w.nodes gs) w.packets
+pub record Holds (calm : Bool) (w : World) (gs : List Passage) : Type 0 where
+  pub nodes : (n : ℕ) (node : Node) → at w.nodes n ≡ Some node → NodeOk calm w.nodes n node
+  pub packets : AllByRecursion (PacketOk calm w.nodes gs) w.packets
 
 -- a frame that is held at a node was sent in the call for which it is held, by its other end
 pub record HeldOk (ns : Nodes) (gs : List Passage) (n : ℕ) (f : Held) : Type 0 where
@@ -213,22 +268,35 @@ pub record HeldOk (ns : Nodes) (gs : List Passage) (n : ℕ) (f : Held) : Type 0
 pub record HeldIsSent (w : World) (gs : List Passage) : Type 0 where
   pub sent : (n number : ℕ) (f : Held) → at (held_at w n) number ≡ Some f → HeldOk w.nodes gs n f
   pub order : (n : ℕ) → Ascends (held_at w n)
+  pub nodes : Ascends w.held
 
--- what is used of steps
+-- what is used of steps, of starts, and of books
 pub record StepLaws : Type 0 where
   pub chains : StepsAreChains
   pub looks : LooksStayTrue
   pub ups : UpsAreMoves
+  pub begin : LooksBeginTrue
   pub starts : StepsAreNoStarts
+  pub start_chains : StartsAreChains
+  pub start_moves : StartsAreOfBooks
+  pub booked : StepsAreBooked
+  pub start_booked : StartsAreBooked
+  pub start_sends : StartsSendOnly
+  pub new_booked : NewEndsAreBooked
 
--- after the run of each list of lines of the grammar, where no node crashes, is to stop, or starts, what the data plane of each node sees is so
+-- after the run of each list of lines of the grammar what the data plane of each node sees is so
 abbrev pub LooksOfRuns : Type 0
-LooksOfRuns = (lines : List Line) → AreLines lines → AreCalm lines → (n : ℕ) (node : Node) → at (run lines).world.nodes n ≡ Some node → LooksAreTrue node.end
+LooksOfRuns = (lines : List Line) → AreLines lines → (n : ℕ) (node : Node) → at (run lines).world.nodes n ≡ Some node
+    → LooksAreTrue node.end
 
 -- and so is each frame that is held
 abbrev pub HeldOfRuns : Type 0
-HeldOfRuns = (lines : List Line) → AreLines lines → AreCalm lines → HeldIsSent (run lines).world (past_of lines).sent
+HeldOfRuns = (lines : List Line) → AreLines lines → HeldIsSent (run lines).world (past_of lines).sent
 
 -- all of it
 abbrev pub FactsOfRuns : Type 0
-FactsOfRuns = (lines : List Line) → AreLines lines → AreCalm lines → Holds (run lines).world (past_of lines).sent
+FactsOfRuns = (lines : List Line) → AreLines lines → Holds false (run lines).world (past_of lines).sent
+
+-- and what is so beside it where no node crashes, is to stop, or starts
+abbrev pub CalmFactsOfRuns : Type 0
+CalmFactsOfRuns = (lines : List Line) → AreLines lines → AreCalm lines → Holds true (run lines).world (past_of lines).sent

@@ -1,5 +1,5 @@
 -- Each frame that is handed up in a call was sent in that call by its other end.
-use Rattle.std.specs.Prelude.{◌≡◌, ◌+◌, ◌-◌, ◌<◌, List, ◌∷◌, ◌++◌, length, take, drop, Option, Some, Ok, ℕ, slice_get}
+use Rattle.std.specs.Prelude.{◌≡◌, false, ◌+◌, ◌-◌, ◌<◌, List, ◌∷◌, ◌++◌, length, take, drop, Option, Some, Ok, ℕ, slice_get}
 use Rattle.id_table.specs.Ids.{at}
 use Rattle.pppoe_discovery.specs.declared.outcome.Discovered.TheVariants.{Carried}
 use Rattle.end_model.specs.Access.{Access}
@@ -10,10 +10,10 @@ use Rattle.std.specs.List.{AllByRecursion}
 use Rattle.l2tp_header.specs.Spelling.{data_bytes}
 use Rattle.l2tp_header.specs.Grammar.{FitsWord}
 use Rattle.schedule_text.specs.declared.line.Line.{Line}
-use Rattle.schedule_text.specs.declared.line.Line.TheVariants.{FromSub, Down, Frame, Hand}
+use Rattle.schedule_text.specs.declared.line.Line.TheVariants.{FromSub, Down, Frame, Hand, Start}
 use Rattle.schedule_text.specs.Grammar.{AreLines}
 use Rattle.end_model.specs.declared.event.Event.{Event}
-use Rattle.end_model.specs.declared.event.Event.TheVariants.{Lcp}
+use Rattle.end_model.specs.declared.event.Event.TheVariants.{Datagram, Lcp, OpenTunnel}
 use Rattle.end_model.specs.declared.moves.Move.{Move}
 use Rattle.end_model.specs.declared.moves.Move.TheVariants.{FrameSent}
 use Rattle.end_model.specs.declared.tunnel.Call.{Call}
@@ -26,8 +26,8 @@ use Rattle.end_model.specs.Secrets.{uncovered_event}
 use Rattle.end_model.specs.Calls.{number_of}
 use Rattle.end_model.specs.Tunnels.{Tunnel}
 use Rattle.end_model.specs.End.{End, plain_step}
+use Rattle.end_model.specs.Starting.{starts}
 use Rattle.world_model.specs.Run.{run}
-use Rattle.step_laws.specs.Calm.{AreCalm}
 use Rattle.step_laws.specs.Letters.{Among}
 use Rattle.step_laws.specs.Links.{GivesFrame}
 use Rattle.step_laws.specs.Moves.{Chain}
@@ -92,9 +92,9 @@ pub record GivesByFrame (w : World) (g : Passage) (bytes : List ℕ) : Type 0 wh
   pub of_host : IsOfHost access node.end src g.session
   pub frame : g.frame ≡ take (stop - start) (drop start bytes)
 
--- in the step of an end on an event, as it reads it, the frame is one that the link of its call gives: the first moves of the
--- step lead to an end in which the call has a link that, as it is called then, gives the frame, and the next move sends it
-pub record GivesInStep (e : End) (moment : ℕ) (block : List ℕ) (ev : Event) (g : Passage) : Type 0 where
+-- of the moves by which an end answers an event, as it reads it, or starts, one sends a frame that the link of its call gives: those
+-- before it lead to an end in which the call has a link that, as it is called then, gives the frame
+pub record GivesInMoves (e : End) (moment : ℕ) (ev : Event) (moves : List Move) (g : Passage) : Type 0 where
   pub first : List Move
   pub end : End
   pub leads : Chain moment ev e first end
@@ -108,7 +108,7 @@ pub record GivesInStep (e : End) (moment : ℕ) (block : List ℕ) (ev : Event) 
   pub gives : GivesFrame ev moment tunnel.control g.session call g.frame
   -- the move that sends the frame, and those behind it
   pub rest : List Move
-  pub moves : (plain_step e moment block ev).moves ≡ first ++ FrameSent (record {
+  pub moves_are : moves ≡ first ++ FrameSent (record {
     tunnel = id;
     peer = tunnel.control.peer;
     session = g.session;
@@ -116,6 +116,15 @@ pub record GivesInStep (e : End) (moment : ℕ) (block : List ℕ) (ev : Event) 
     number = number_of call.sequence;
     frame = g.frame;
   }) ∷ rest
+
+-- an event that isn't a datagram
+abbrev pub IsNoDatagram : Event → Type 0
+IsNoDatagram (Datagram peer bytes) = ⊥
+IsNoDatagram ev = Unit {0}
+
+-- in the step of an end
+abbrev pub GivesInStep : End → ℕ → List ℕ → Event → Passage → Type 0
+GivesInStep e moment block ev g = GivesInMoves e moment ev (plain_step e moment block ev).moves g
 
 -- a line has a node make a step: it is that step, or it hands up a frame of LCP that the node holds, and the step comes behind
 pub data MakesStep (w : World) (number : ℕ) (l : Line) (n : ℕ) (ev : Event) (sender : Option Sender) (node : Node) : Type 0 where
@@ -137,22 +146,33 @@ pub record GivesByLink (w : World) (l : Line) (g : Passage) : Type 0 where
   pub steps : MakesStep w g.line l g.node event sender node
   pub in_step : GivesInStep node.end node.clock (block_of g.node g.line) (uncovered_event node.end.config.secret event) g
 
+-- so it is in the start of the passage's node, over its book. Nothing comes in a start; it is said with an event on which no link is called
+pub record GivesByStart (w : World) (g : Passage) : Type 0 where
+  pub node : Node
+  pub there : at w.nodes g.node ≡ Some node
+  pub down : node.up ≡ false
+  pub in_start : GivesInMoves node.end node.clock OpenTunnel
+      (starts node.end.role node.end.config node.checkpoint.book node.clock (block_of g.node g.line)).moves g
+
 -- a frame that counts as sent is one that its line gave to its end in its call; or at a LAC one that the host of that call sent in an
--- Ethernet frame which its line brings; or at an LNS one that the link of that call gave on what its line brings, which no
--- line spells. The world is as it was before the line
+-- Ethernet frame which its line brings; or at an LNS one that the link of that call gave on what its line brings, or as the call came
+-- back in a start, which no line spells. The world is as it was before the line
 pub data IsGiven (lines : List Line) (g : Passage) : Type 0 where
   ByItsLine : slice_get lines (g.line - 1) ≡ Some (gives_frame g.role g.node g.session g.frame) → IsGiven lines g
-  ByItsHost : (before after : List Line) (bytes : List ℕ) → lines ≡ before ++ Frame g.node bytes ∷ after → g.line ≡ length before + 1 → g.role ≡ Lac
+  ByItsHost : (before after : List Line) (bytes : List ℕ) → lines ≡ before ++ Frame g.node bytes ∷ after → g.line ≡ length before + 1
+      → g.role ≡ Lac
       → GivesByFrame (run before).world g bytes → IsGiven lines g
   ByItsLink : (before after : List Line) (l : Line) → lines ≡ before ++ l ∷ after → g.line ≡ length before + 1 → g.role ≡ Lns
       → GivesByLink (run before).world l g → IsGiven lines g
+  ByItsStart : (before after : List Line) → lines ≡ before ++ Start g.node ∷ after → g.line ≡ length before + 1 → g.role ≡ Lns
+      → GivesByStart (run before).world g → IsGiven lines g
 
--- in the run of each list of lines of the grammar, where no node crashes, is to stop, or starts, and whether each line fits or one ends the run
+-- in the run of each list of lines of the grammar, whatever crashes, and whether each line fits or one ends the run
 abbrev pub FramesOfRuns : Type 0
-FramesOfRuns = (lines : List Line) → AreLines lines → AreCalm lines → AreSent (past_of lines)
+FramesOfRuns = (lines : List Line) → AreLines lines → AreSent (past_of lines)
 
 abbrev pub PacketsOfRuns : Type 0
-PacketsOfRuns = (lines : List Line) → AreLines lines → AreCalm lines → AllByRecursion (IsCarried (run lines).world.packets) (past_of lines).sent
+PacketsOfRuns = (lines : List Line) → AreLines lines → AllByRecursion (IsCarried (run lines).world.packets) (past_of lines).sent
 
 abbrev pub GivenInRuns : Type 0
-GivenInRuns = (lines : List Line) → AreLines lines → AreCalm lines → AllByRecursion (IsGiven lines) (past_of lines).sent
+GivenInRuns = (lines : List Line) → AreLines lines → AllByRecursion (IsGiven lines) (past_of lines).sent

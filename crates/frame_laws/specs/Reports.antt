@@ -2,7 +2,6 @@
 use Rattle.std.specs.Prelude.{◌≡◌, List, [], ◌∷◌, ◌++◌}
 use Rattle.schedule_text.specs.declared.line.Line.{Line}
 use Rattle.schedule_text.specs.Grammar.{AreLines}
-use Rattle.step_laws.specs.Calm.{AreCalm}
 use Rattle.end_model.specs.declared.moves.Move.{Move}
 use Rattle.end_model.specs.declared.moves.Move.TheVariants as move
 use Rattle.world_model.specs.Texts.{Entry, Sends, HandsUp, Holds, Ends, Frames, Drops, Causes, Stopped}
@@ -30,6 +29,6 @@ unfoldable pub told_of : List Deed → List Entry
 told_of [] = []
 told_of (d ∷ ds) = told_by d d.move ++ told_of ds
 
--- in the run of each list of lines of the grammar, where no node crashes, is to stop, or starts
+-- in the run of each list of lines of the grammar, whatever crashes
 abbrev pub ReportsOfRuns : Type 0
-ReportsOfRuns = (lines : List Line) → AreLines lines → AreCalm lines → ups_in (run lines).entries ≡ told_of (run lines).done
+ReportsOfRuns = (lines : List Line) → AreLines lines → ups_in (run lines).entries ≡ told_of (run lines).done

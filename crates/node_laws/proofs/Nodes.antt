@@ -90,20 +90,25 @@ module _ (k : Checkpoint) (rs : List Record) where
   pub whole_book : AreInPlace k.book rs → (c : Checkpoint) → commits k rs ≡ IsWhole c → c.book ≡ book_after k.book rs
   whole_book in_place c is = subst Has is has ∙ (all_counted k rs in_place).book
 
+  -- where it is cut off, some front of the records was counted
+  pub cut_front : AreInPlace k.book rs → (c : Checkpoint) → commits k rs ≡ IsCut c
+      → (n : ℕ) × AreInPlace k.book (take n rs) × (c.book ≡ book_after k.book (take n rs))
+  cut_front in_place c is =
+      let h : (n : ℕ) × (c.book ≡ (recorded_all k (take n rs)).book) = subst Has is has in
+      let front = front_in_place h.0 k.book rs in_place in
+      (h.0, front, h.1 ∙ (all_counted k (take h.0 rs) front).book)
+
   -- of a sound book each front of records in place makes a sound one
   pub cut_book : IsSoundBook k.book → AreInPlace k.book rs → (c : Checkpoint) → commits k rs ≡ IsCut c → IsSoundBook c.book
   cut_book sound in_place c is =
-      let h : (n : ℕ) × (c.book ≡ (recorded_all k (take n rs)).book) = subst Has is has in
-      let front = front_in_place h.0 k.book rs in_place in
-      subst IsSoundBook (sym (h.1 ∙ (all_counted k (take h.0 rs) front).book)) (records_keep k.book (take h.0 rs) sound front)
+      let h = cut_front in_place c is in subst IsSoundBook (sym h.2) (records_keep k.book (take h.0 rs) sound h.1)
 
   -- and of one that suits a role, one that does
   pub cut_suits : (r : Role) → SuitsRole r k.book → AreInPlace k.book rs → AllByRecursion (LeavesNone r) rs → (c : Checkpoint) → commits k rs ≡ IsCut c
       → SuitsRole r c.book
   cut_suits r suits in_place leaves c is =
-      let h : (n : ℕ) × (c.book ≡ (recorded_all k (take n rs)).book) = subst Has is has in
-      let front = front_in_place h.0 k.book rs in_place in
-      subst (SuitsRole r) (sym (h.1 ∙ (all_counted k (take h.0 rs) front).book)) (records_suit r k.book (take h.0 rs) suits (front_leaves r h.0 rs leaves))
+      let h = cut_front in_place c is in
+      subst (SuitsRole r) (sym h.2) (records_suit r k.book (take h.0 rs) suits (front_leaves r h.0 rs leaves))
 
 -- ---- nodes of a world
 

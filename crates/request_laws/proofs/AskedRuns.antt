@@ -199,7 +199,7 @@ module _ (chains : StepsAreChains) (facts : FactsOfRuns) (moves : MovesOfRuns) w
   kept_now : (number : ℕ) (before : List Line) (r : Run) → Reached number before r → (n : ℕ) (node : Node) → at r.world.nodes n ≡ Some node → AreKept node.end
   kept_now number before r h n node there =
       let is = reached_is number before r h in
-      ((facts before h.fit h.calm).nodes n node (subst (λ (q : Run). at q.world.nodes n ≡ Some node) (sym is) there)).kept
+      ((facts before h.fit).nodes n node (subst (λ (q : Run). at q.world.nodes n ≡ Some node) (sym is) there)).kept
 
   does_asks : (number : ℕ) (r : Run) → ((n : ℕ) (node : Node) → at r.world.nodes n ≡ Some node → AreKept node.end) → RunAsks r → (x : Lined)
       → AreMain x.done → LineDoes r.world number x → RunAsks (after_line r x)

@@ -1,5 +1,5 @@
 -- Two sessions of LNSs with one birth are one, in every run.
-use Rattle.std.proofs.Common.{◌≡◌, ⊎_elim, ℕ, ◌+◌, ◌<◌, List, [], ◌∷◌, ◌++◌, append_assoc, sym, ap, ◌∙◌, subst, Option, Some, None, slice_get, arith, Bool}
+use Rattle.std.proofs.Common.{◌≡◌, ⊎_elim, ℕ, ◌+◌, ◌<◌, List, [], ◌∷◌, ◌++◌, append_assoc, sym, ap, ◌∙◌, subst, Option, Some, None, slice_get, arith, Bool, false}
 use Rattle.std.proofs.lemmas.Option.{none-some}
 use Rattle.std.specs.List.{AllByRecursion}
 use Rattle.id_table.specs.Ids.{at, put, at-none}
@@ -113,7 +113,7 @@ module _ (r : Run) (ok : RunTells r) where
       (λ a. node_tells_later r.world.nodes ns (fresh_stay n new none) (account_of r.done q) later done node (ok q node a.1))
       (found_put r.world.nodes n new q node (rw (← nodes) f)))
 
-  module _ (chains : StepsAreChains) (gs : List Passage) (facts : Holds r.world gs)
+  module _ (chains : StepsAreChains) (gs : List Passage) (facts : Holds false r.world gs)
       (number n : ℕ) (old : Node) (clock : ℕ) (access : Option Access) (checkpoint : Checkpoint) (ev : Event) (sender : Option Sender) (there : at r.world.nodes n ≡ Some old)
       (from : IsFrom r.world sender ev) (mains : AllByRecursion IsMain (step old.end clock (block_of n number) ev).moves) where
     -- what came, as it is read
@@ -138,11 +138,11 @@ module _ (r : Run) (ok : RunTells r) where
     abbrev v : World
     v = after_moves r.world number n timed sender s
 
-    node_ok : NodeOk r.world.nodes n old
+    node_ok : NodeOk false r.world.nodes n old
     node_ok = facts.nodes n old there
 
     few : (k : ℕ) (p : Packet) → slice_get r.world.packets k ≡ Some p → p.from < 256
-    few k p is = (all_at (PacketOk r.world.nodes gs) r.world.packets k p is facts.packets).from
+    few k p is = (all_at (PacketOk false r.world.nodes gs) r.world.packets k p is facts.packets).from
 
     -- the births of the node stay as its step begins
     begun : BirthsStay r.world.nodes base.nodes
@@ -202,7 +202,7 @@ module _ (r : Run) (ok : RunTells r) where
         (same_or_not q n))
 
 module _ (chains : StepsAreChains) (facts : FactsOfRuns) (moves : MovesOfRuns) where
-  does_tells : (number : ℕ) (r : Run) (gs : List Passage) → Holds r.world gs → RunTells r → (x : Lined) → AreMain x.done → LineDoes r.world number x
+  does_tells : (number : ℕ) (r : Run) (gs : List Passage) → Holds false r.world gs → RunTells r → (x : Lined) → AreMain x.done → LineDoes r.world number x
       → RunTells (after_line r x)
   does_tells number r gs now ok x mains (Nothing es e) = quiet_tells r ok x es e
   does_tells number r gs now ok x mains (Declares n role lns secret hide none es e) = declared_tells r ok x number n role lns secret hide none es e
@@ -216,8 +216,8 @@ module _ (chains : StepsAreChains) (facts : FactsOfRuns) (moves : MovesOfRuns) w
       → (q : ℕ) (node : Node) → at ns q ≡ Some node → NodeTells ns (account_of es q) node
   still_tells ns ds es same ok q node f = node_tells_later ns ns (λ m k c h. h) (account_of ds q) (account_of es q) (same q) node (ok q node f)
 
-  holds_now : (number : ℕ) (before : List Line) (r : Run) → Reached number before r → Holds r.world (past_of before).sent
-  holds_now number before r h = subst (λ (q : Run). Holds q.world (past_of before).sent) (reached_is number before r h) (facts before h.fit h.calm)
+  holds_now : (number : ℕ) (before : List Line) (r : Run) → Reached number before r → Holds false r.world (past_of before).sent
+  holds_now number before r h = subst (λ (q : Run). Holds false q.world (past_of before).sent) (reached_is number before r h) (facts before h.fit)
 
   line_tells : (number : ℕ) (before : List Line) (r : Run) → Reached number before r → RunTells r → (x : Lined) → AreMain x.done → LineIs r.world number x
       → RunTells (after_line r x)
@@ -297,8 +297,8 @@ born_in_runs chains facts moves births holds lines fits calm few b n s m q one t
     let ok = (holds lines fits calm few).accounts in
     let asked = asked_in_runs chains facts moves in
     let tells = tells_in_runs chains facts moves lines fits calm in
-    let nodes = (facts lines fits calm).nodes in
+    let nodes = (facts lines fits).nodes in
     let h = (tells n one.node one.is one.role).told s b one.birth_is ((nodes n one.node one.is).births s b one.birth_is).1 in
     let k = (tells m two.node two.is two.role).told q b two.birth_is ((nodes m two.node two.is).births q b two.birth_is).1 in
     one_session r.done ok r.world (drawn_at_lacs_in_runs chains facts moves lines fits calm)
-    (made_once r.done ok (asked lines fits calm)) (births lines fits calm few) n s m q b h k
+    (made_once r.done ok (asked lines fits calm)) (births lines fits few) n s m q b h k

@@ -1,6 +1,7 @@
 -- The runs, the steps and the tables, computed.
 use Rattle.std.proofs.Common.{refl}
 use Rattle.world_model.specs.Texts.{send_text}
+use Rattle.run_examples.specs.Crashes.{FramesOutliveCrashes}
 use Rattle.run_examples.specs.Crossing.{FramesCross}
 use Rattle.run_examples.specs.Endings.{CallsEndOnce}
 use Rattle.run_examples.specs.Held.{FramesAreHeld}
@@ -33,6 +34,10 @@ calls_end_once = record { entries = refl; of_lns = refl; of_lac = refl; tables =
 pub frames_are_held : FramesAreHeld
 unfolding computing
 frames_are_held = record { entries = refl; sent = refl }
+
+pub frames_outlive_crashes : FramesOutliveCrashes
+unfolding computing
+frames_outlive_crashes = record { past = refl }
 
 pub letters_owed_are_counted : LettersOwedAreCounted
 unfolding computing

@@ -4,6 +4,7 @@ pub mod Entries
 pub mod Crossing
 pub mod Endings
 pub mod Held
+pub mod Crashes
 pub mod Messages
 pub mod Outlived
 pub mod Owed

@@ -4,6 +4,7 @@
 //! could be taken for.
 #![tactic(auto)]
 
+ghost use Rattle.run_examples.specs.Crashes.{FramesOutliveCrashes};
 ghost use Rattle.run_examples.specs.Crossing.{FramesCross};
 ghost use Rattle.run_examples.specs.Endings.{CallsEndOnce};
 ghost use Rattle.run_examples.specs.Held.{FramesAreHeld};
@@ -35,6 +36,12 @@ pub fn calls_are_refused()
 /// A frame that is held as its call is hung up comes up in that call.
 pub fn frames_are_held()
     ensures { FramesAreHeld }
+{}
+
+/// A frame that is under way as an end crashes comes up in its call, which the start of the end brings back: at a LAC, and at an
+/// LNS, whose link asks anew.
+pub fn frames_outlive_crashes()
+    ensures { FramesOutliveCrashes }
 {}
 
 /// A call that is dropped at one end while it is hung up at the other is gone once at each.

@@ -14,16 +14,19 @@ use Rattle.world_model.specs.Texts.{Entry, Drops, Frames}
 use Rattle.world_model.specs.World.{World, Node, Lined, lac_at, retold, answer_entries, replies, enters, comes, comes_by, framed, stepped}
 use Rattle.step_laws.specs.Hosts.{LacAt, with_host, entering, reply_to, HostDoes, host_does}
 use Rattle.step_laws.specs.Lines.{is_lac_at, IsAt, is_at}
-use Rattle.channel_laws.specs.Lines.{IsNoDatagram}
+use Rattle.frame_laws.specs.Frames.{IsNoDatagram}
 
 -- what is to be shown of it; a step that a stop cuts off answers no host
 pub record OfFrame (P : Lined → Type 0) (w : World) (number n : ℕ) (bytes : List ℕ) : Type 1 where
   pub ignored : (l : LacAt w n) (word : Why) → coming l.access l.node.end bytes ≡ Ignores word → (x : Lined)
       → stepped w number n (event.Frame bytes) None (Ok l.node) ≡ Ok x → x.cut ≡ false → P (record x { entries = Drops number n word ∷ [] })
   pub answered : (l : LacAt w n) (because : Option Cause) (frame : List ℕ) → coming l.access l.node.end bytes ≡ Answers because frame
-      → (x : Lined) → stepped w number n (event.Frame bytes) None (Ok l.node) ≡ Ok x → x.cut ≡ false → P (record x { entries = answer_entries number n because frame })
-  pub done : (l : LacAt w n) (ev : Event) → coming l.access l.node.end bytes ≡ Runs ev → HostDoes l.access l.node.end bytes ev → (x : Lined) → stepped w number n ev None (Ok l.node) ≡ Ok x → P x
-  pub entered : (l : LacAt w n) (src : List ℕ) (uniq : Option (List ℕ)) (asked : Discovered) → coming l.access l.node.end bytes ≡ Enters src uniq asked
+      → (x : Lined) → stepped w number n (event.Frame bytes) None (Ok l.node) ≡ Ok x → x.cut ≡ false
+      → P (record x { entries = answer_entries number n because frame })
+  pub done : (l : LacAt w n) (ev : Event) → coming l.access l.node.end bytes ≡ Runs ev → HostDoes l.access l.node.end bytes ev
+      → (x : Lined) → stepped w number n ev None (Ok l.node) ≡ Ok x → P x
+  pub entered : (l : LacAt w n) (src : List ℕ) (uniq : Option (List ℕ)) (asked : Discovered)
+      → coming l.access l.node.end bytes ≡ Enters src uniq asked
       → (x : Lined) → stepped w number n (event.Admitted src) None (Ok (with_host w number n l src uniq)) ≡ Ok x → x.cut ≡ false
       → P (record x { entries = x.entries ++ Frames number n (reply_to w number n l src asked) ∷ [] })
   pub cut : (l : LacAt w n) (ev : Event) (node : Node) → IsAt w n node → node.up ≡ true → IsNoDatagram ev → (x : Lined)
@@ -58,13 +61,15 @@ module _ (P : Lined → Type 0) (w : World) (number n : ℕ) (bytes : List ℕ) 
       told_again (Drops number n word ∷ []) (stepped w number n (event.Frame bytes) None (Ok l.node)) (λ y e u. of.ignored l word is y e u)
       (λ y e c. of.cut l (event.Frame bytes) l.node (is_at w n l.node l.there) l.up tt y e c) h
   by_coming l (Answers because frame) is h =
-      told_again (answer_entries number n because frame) (stepped w number n (event.Frame bytes) None (Ok l.node)) (λ y e u. of.answered l because frame is y e u)
+      told_again (answer_entries number n because frame) (stepped w number n (event.Frame bytes) None (Ok l.node))
+      (λ y e u. of.answered l because frame is y e u)
       (λ y e c. of.cut l (event.Frame bytes) l.node (is_at w n l.node l.there) l.up tt y e c) h
   by_coming l (Runs ev) is h = of.done l ev is (host_does l.access l.node.end bytes ev is) x h
   by_coming l (Enters src uniq asked) is h =
       replied (reply_to w number n l src asked) (stepped w number n (event.Admitted src) None (Ok (with_host w number n l src uniq)))
       (λ y e u. of.entered l src uniq asked is y e u)
-      (λ y e c. of.cut l (event.Admitted src) (with_host w number n l src uniq) (entering w number n l src uniq (with_host w number n l src uniq) refl) l.up tt y e c) h
+      (λ y e c. of.cut l (event.Admitted src) (with_host w number n l src uniq)
+      (entering w number n l src uniq (with_host w number n l src uniq) refl) l.up tt y e c) h
 
   by_access : (node : Node) → at w.nodes n ≡ Some node → node.end.role ≡ Lac → node.up ≡ true → (o : Option Access) → node.access ≡ o
       → comes_by w number n bytes node o ≡ Ok x → P x
