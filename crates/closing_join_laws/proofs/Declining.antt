@@ -124,8 +124,8 @@ module _ (codecs : Codecs) (again : WrittenIsRead) (room : WrittenHasRoom) (w : 
       answers = declining.answers_same h d m is;
     }
 
-    went : Went n j z
-    went = went_one n j z (Refuses S) (refuses_node j S ∙ (told.peer made_there ∙ to)) refl
+    went : Went ev n j z
+    went = went_one ev n j z (Refuses S) (refuses_node j S ∙ (told.peer made_there ∙ to)) refl tt
         (refuses_it j S (told.opener ∙ ap is_opener own))
 
     phases : (f : ℕ) → phase_in n (at x.tunnels f) ≡ phase_in n (at node.end.tunnels f)
@@ -157,8 +157,8 @@ module _ (codecs : Codecs) (again : WrittenIsRead) (room : WrittenHasRoom) (w : 
           (λ r at_r current three. (r, sym (ap (λ ts. at ts 0) tunnels) ∙ at_r, current, three, refl));
     }) q.joined.queries
 
-    refused_follows : Follows (with_book (moves_on w n node mv x) n b) (after h d) n j
-    refused_follows = follows w h n node mv x d k b j z same went
+    refused_follows : Follows ev (with_book (moves_on w n node mv x) n b) (after h d) n j
+    refused_follows = follows ev w h n node mv x d k b j z same went
         (λ js goes. joined (refused_joined v h g p m.remote j q.joined.joined refusal js goes)) queries q.joined.named
 
   -- ---- an attempt's
@@ -202,10 +202,10 @@ module _ (codecs : Codecs) (again : WrittenIsRead) (room : WrittenHasRoom) (w : 
       answers = λ y f. declining.answers_same h d m is y f i;
     }
 
-    attempt_follows : Follows (with_book (moves_on w n node mv x) n b) (after h d) n j
+    attempt_follows : Follows ev (with_book (moves_on w n node mv x) n b) (after h d) n j
     attempt_follows = still_follows w h n node sender moment ev mv x d k j q b mirrors same history ids 0 (Same tunnels)
 
-  pub declined_follows : Follows (with_book (moves_on w n node mv x) n b) (after h d) n j
+  pub declined_follows : Follows ev (with_book (moves_on w n node mv x) n b) (after h d) n j
   declined_follows = ⊎_elim
       (λ (opener : (a.part ≡ Opener) × (a.peer ≡ n) × (m.nr ≡ 1)). refused_follows opener.0 opener.1)
       (λ (attempt : (r : Restored) × (h.attempts (node_of m.peer) m.remote ≡ Some r) × (r.tunnel.peer ≡ address_of n)).

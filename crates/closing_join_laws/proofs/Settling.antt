@@ -235,9 +235,8 @@ module _ (w : World) (h : History) (n : ℕ) (node : Node) (sender : Option Send
 
 -- ---- what such a move does
 
-pub record Settles (w : World) (h : History) (n : ℕ) (node : Node) (m : Move) (x : End) (d : Deed) (b : Kept) (j z : machine.World)
-    (t r : Tunnel)
-    (new : Account) (ls : List Letter) (says : List machine_letters.Letter) (took : ℕ) : Type 0 where
+pub record Settles (ev : Event) (w : World) (h : History) (n : ℕ) (node : Node) (m : Move) (x : End) (d : Deed) (b : Kept)
+    (j z : machine.World) (t r : Tunnel) (new : Account) (ls : List Letter) (says : List machine_letters.Letter) (took : ℕ) : Type 0 where
   pub same : moves_on w n node m x ≡ with_end w n node x
   pub plain : IsPlain d m
   -- the tunnel before and behind it
@@ -269,13 +268,13 @@ pub record Settles (w : World) (h : History) (n : ℕ) (node : Node) (m : Move) 
   pub births : (z.calls.births ≡ j.calls.births) × ((y : ℕ) → z.calls.birth y ≡ j.calls.birth y)
   pub queries : QueriesJoined (behind w n node x b) (after h d) z
   pub named : CallsAreNamed z
-  pub went : Went n j z
+  pub went : Went ev n j z
 
 module _ (stay : TakenStay) (w : World) (h : History) (n : ℕ) (node : Node) (sender : Option Sender) (moment : ℕ) (ev : Event)
     (m : Move) (x : End)
     (d : Deed) (k : Kept) (j : machine.World) (q : steps.IsMade w h n node sender moment ev m x d k j) (b : Kept) (mirrors : Mirrors x b)
     (z : machine.World) (t r : Tunnel) (new : Account) (ls : List Letter) (says : List machine_letters.Letter) (took : ℕ)
-    (s : Settles w h n node m x d b j z t r new ls says took) where
+    (s : Settles ev w h n node m x d b j z t r new ls says took) where
   abbrev i : ℕ
   i = about m
 
@@ -449,8 +448,8 @@ module _ (stay : TakenStay) (w : World) (h : History) (n : ℕ) (node : Node) (s
     births = s.births;
   }
 
-  pub settles_follow : Follows (with_book (moves_on w n node m x) n b) (after h d) n j
-  settles_follow = follows w h n node m x d k b j z s.same s.went
+  pub settles_follow : Follows ev (with_book (moves_on w n node m x) n b) (after h d) n j
+  settles_follow = follows ev w h n node m x d k b j z s.same s.went
       (λ js goes.
       one_joined stay (with_book w n k) u h g j z n i (booked node k) (left node x b) q.joined.joined
       (changes_one w h g n node x k b j z i changes q.joined.joined) js goes)

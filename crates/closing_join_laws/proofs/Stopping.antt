@@ -55,6 +55,7 @@ use Rattle.join_laws.proofs.Calls.{call_in, sessions_joined}
 use Rattle.join_laws.proofs.Channel.{questions_stay, heeds_all}
 use Rattle.join_laws.proofs.Finish.{Went, went_one}
 use Rattle.join_laws.proofs.Leaving.{leaves_here, leaves_phase, leaves_booked, ends_call, elsewhere_stays, left_sessions}
+use Rattle.join_laws.proofs.Hearing.{heard_none}
 use Rattle.join_laws.proofs.Made as made
 use Rattle.join_laws.proofs.OneTunnel.{this_or_not}
 use Rattle.join_laws.proofs.Roots.{IsPlain}
@@ -309,10 +310,10 @@ module _ (keep : calm_steps.MovesKeep) (stops : StopIsHeard) (codecs : Codecs) (
 
   -- ---- by one of no tunnel
 
-  refusal : StopOfNone (calm_of h) n m.tunnel sender → Went n j z
+  refusal : StopOfNone (calm_of h) n m.tunnel sender → Went ev n j z
   refusal s =
       let own : a.part ≡ Opener = opener_back a.part s.opener in
-      went_one n j z (TakesRefusal X) (refusal_node j X ∙ told.node live.made) refl
+      went_one ev n j z (TakesRefusal X) (refusal_node j X ∙ told.node live.made) refl tt
       (takes_refusal j X (told.refused ∙ s.declined) (waits_there (waits_one own s.remote))
       (taken_before ∙ (ap (λ (ts : List Taken). weigh (take (length ts) (partner_in h.accounts 0 a).given)) s.nothing
       ∙ none_weighs (partner_in h.accounts 0 a).given)))
@@ -480,12 +481,13 @@ module _ (keep : calm_steps.MovesKeep) (stops : StopIsHeard) (codecs : Codecs) (
         (λ (gone : (c.remote ≡ 0) × (a.remote ≡ from.tunnel)). by_lost gone.0 gone.1 c.part refl)
         s.reaches
 
-    delivery : Went n j z
-    delivery = went_one n j z (Delivers X S 0 place 0) (delivers_node j X S 0 place 0 ∙ told.node live.made) refl
+    delivery : Went ev n j z
+    delivery = went_one ev n j z (Delivers X S 0 place 0) (delivers_node j X S 0 place 0 ∙ told.node live.made) refl
+        (heard_none ev j X S 0 place 0 machine_letters.StopCcn stands refl)
         (stops_it j X S place stands
         (may_stop j X S place active (name_some from.node from.tunnel some) (reached j S X knows) at_first (taken_before ∙ same_place)))
 
-  went : Went n j z
+  went : Went ev n j z
   went = ⊎_elim (λ s. delivery s) (λ s. refusal s) stop
 
   goes : Goes j z X [] 0
@@ -538,7 +540,7 @@ module _ (keep : calm_steps.MovesKeep) (stops : StopIsHeard) (codecs : Codecs) (
         absurd (omega (arith, number, three))));
   }) q.joined.queries
 
-  settles : Settles w h n node mv x d b j z t r new [] [] 0
+  settles : Settles ev w h n node mv x d b j z t r new [] [] 0
   settles = record {
     same = same;
     plain = plain;
@@ -577,14 +579,14 @@ module _ (keep : calm_steps.MovesKeep) (stops : StopIsHeard) (codecs : Codecs) (
     went = went;
   }
 
-  pub stopped_follows : Follows (with_book (moves_on w n node mv x) n b) (after h d) n j
+  pub stopped_follows : Follows ev (with_book (moves_on w n node mv x) n b) (after h d) n j
   stopped_follows = settles_follow stay w h n node sender moment ev mv x d k j q b mirrors z t r new [] [] 0 settles
 
 pub stopped_first : calm_steps.MovesKeep → StopIsHeard → Codecs → WrittenIsRead → WrittenHasRoom → EpochsOfRuns → LettersOfRuns → TakenStay
     → (m : ClosedBy) (w : World) (h : History) (n : ℕ) (node : Node) (sender : Option Sender) (moment : ℕ) (ev : Event) (x : End) (d : Deed)
     (k : Kept) (j : machine.World) → steps.IsMade w h n node sender moment ev (move.ClosedBy m) x d k j → epoch_of w n m.tunnel ≡ 0 →
     (b : Kept)
-    → Mirrors x b → Follows (with_book (moves_on w n node (move.ClosedBy m) x) n b) (after h d) n j
+    → Mirrors x b → Follows ev (with_book (moves_on w n node (move.ClosedBy m) x) n b) (after h d) n j
 stopped_first keep stops codecs again room epochs letters stay m w h n node sender moment ev x d k j q first b mirrors =
     stopped_follows keep stops codecs again room epochs (lost_of_runs epochs letters) stay w h n node sender moment ev m x d k j q first b
     mirrors

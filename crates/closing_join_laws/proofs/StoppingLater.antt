@@ -64,6 +64,7 @@ use Rattle.tunnel_fsm.specs.declared.table.TunnelState.TheVariants as state
 use Rattle.end_model.specs.declared.moves.Move.TheVariants as move
 use Rattle.epoch_machine.specs.Worlds as machine
 use Rattle.join_laws.specs.Steps as steps
+use Rattle.join_laws.proofs.Hearing.{heard_none}
 use Rattle.join_laws.proofs.Made as made
 use Rattle.control_message.specs.declared.message.Message.TheVariants as message
 use Rattle.epoch_machine.specs.Letters as machine_letters
@@ -252,8 +253,9 @@ module _ (codecs : Codecs) (again : WrittenIsRead) (room : WrittenHasRoom) (clas
       ∙ says_one a.peer c.peer (questions_in c.taken) c.given (length a.taken) next.letter machine_letters.StopCcn next.there
       (λ asked. stop_said a.peer c.peer asked next.letter.session next.letter.message stops)
 
-  went : Went n j z
-  went = went_one n j z (Delivers X S e place 0) (delivers_node j X S e place 0 ∙ told.node live.made) refl
+  went : Went ev n j z
+  went = went_one ev n j z (Delivers X S e place 0) (delivers_node j X S e place 0 ∙ told.node live.made) refl
+      (heard_none ev j X S e place 0 machine_letters.StopCcn stands refl)
       (stops_at j X S e place stands (may_take_it j X S e place machine_letters.StopCcn from))
 
   -- ---- the tunnel
@@ -392,8 +394,8 @@ module _ (codecs : Codecs) (again : WrittenIsRead) (room : WrittenHasRoom) (clas
     births = ((ends_call j X Closed 0).births, λ y. (ends_call j X Closed y).birth);
   }
 
-  pub stopped_later : Follows (with_book (moves_on w n node mv x) n b) (after h d) n j
-  stopped_later = follows w h n node mv x d k b j z same went
+  pub stopped_later : Follows ev (with_book (moves_on w n node mv x) n b) (after h d) n j
+  stopped_later = follows ev w h n node mv x d k b j z same went
       (λ js goes.
       one_joined stay (with_book w n k) u h g j z n i (booked node k) (left node x b) q.joined.joined
       (changes_one w h g n node x k b j z i changes q.joined.joined) js goes)

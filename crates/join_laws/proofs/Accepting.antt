@@ -5,7 +5,7 @@ use Rattle.id_table.specs.Ids.{at, put}
 use Rattle.session_book.specs.Books.{Kept, tunnel_at}
 use Rattle.tunnel_fsm.specs.Rows.{state_number}
 use Rattle.tunnel_fsm.specs.declared.table.TunnelState.TheVariants.{WaitCtlConn}
-use Rattle.control_message.specs.declared.message.Message.TheVariants.{Sccrp}
+use Rattle.control_message.specs.declared.message.Message.TheVariants.{Sccrq, Sccrp}
 use Rattle.end_names.specs.Names.{node_of}
 use Rattle.end_model.specs.declared.event.Event.{Event}
 use Rattle.end_model.specs.declared.moves.Accepted.{Accepted}
@@ -50,6 +50,7 @@ use Rattle.join_laws.specs.Steps as steps
 use Rattle.join_laws.specs.Steps.{with_book, Follows, Joins}
 use Rattle.join_laws.proofs.Channel.{gives_is}
 use Rattle.join_laws.proofs.Finish.{Went, went_one, follows}
+use Rattle.join_laws.proofs.Hearing.{hears_said}
 use Rattle.join_laws.proofs.Made as made
 use Rattle.join_laws.proofs.NewTunnel as new_tunnels
 use Rattle.join_laws.proofs.NewTunnel.{Makes}
@@ -344,15 +345,16 @@ module _ (grow : ChannelsGrow) (w : World) (h : History) (n : ℕ) (node : Node)
         (makes_by j y z X false n p S WaitConnect (machine_letters.Sccrp ∷ []) 1 begins_so goes calls);
   }
 
-  went : Went n j z
-  went = went_one n j z (moves.Accepts S X) (accepts_node j S X ∙ peer_there) refl
+  went : Went ev n j z
+  went = went_one ev n j z (moves.Accepts S X) (accepts_node j S X ∙ peer_there) refl
+      (hears_said ev q.moved.does.hears.1.letter q.moved.does.hears.1.came (Sccrq q.moved.does.opening) q.moved.does.hears.1.says.said)
       (accepts_is j S X (ap (λ o. j.tunnels.up o) peer_there ∙ made.up_before w h n node sender moment ev mv x d k j q) drawn_there
       (told_there.opener ∙ ap joined.is_opener opens)
       (new_tunnels.new_name w h n node sender moment ev mv x d k j q i q.moved.does.drawn)
       (new_tunnels.new_unused w h n node sender moment ev mv x d k j q i q.moved.does.drawn))
 
-  pub accepted_follows : Follows (with_book (moves_on w n node mv x) n b) (after h d) n j
-  accepted_follows = follows w h n node mv x d k b j z same went
+  pub accepted_follows : Follows ev (with_book (moves_on w n node mv x) n b) (after h d) n j
+  accepted_follows = follows ev w h n node mv x d k b j z same went
       (λ js goes_on. new_tunnels.new_joined w h n node sender moment ev mv x d k j q i q.moved.does.drawn grow.stay g b z r account
       (machine_letters.Sccrp ∷ []) 1 p S is_new_one js goes_on)
       (new_tunnels.new_queries w h n node sender moment ev mv x d k j q i q.moved.does.drawn grow.stay g b z r account

@@ -296,16 +296,17 @@ module _ (stay : TakenStay) (runs : BirthsOfRuns) (w : World) (h : History) (n :
       ((made.told w h n node sender moment ev mv x d k j q i t at_t).phase ∙ current_phase n t t.recovery q.moved.does.current)
       ∙ goes_phase t.control.state q.moved.does.goes
 
-  went : Went n j z
-  went = went_one n j z (AddsCall X Z)
+  went : Went ev n j z
+  went = went_one ev n j z (AddsCall X Z)
       (adds_node j X Z ∙ (made.told w h n node sender moment ev mv x d k j q i t at_t).node
       (made.live_ok w h n node sender moment ev mv x d k j q i t at_t).made)
-      refl (adds_is j X Z phase_goes some_name undrawn)
+      refl tt (adds_is j X Z phase_goes some_name undrawn)
 
-  pub added_follows : Follows (with_book (moves_on w n node mv x) n b) (after h d) n j
-  added_follows = subst (λ v. Follows (with_book v n b) (after h d) n j) (sym led_is) (record {
+  pub added_follows : Follows ev (with_book (moves_on w n node mv x) n b) (after h d) n j
+  added_follows = subst (λ v. Follows ev (with_book v n b) (after h d) n j) (sym led_is) (record {
     moves = went.moves;
     own = went.own;
+    heard = went.heard;
     joined = subst (IsJoined u g) went.goes (record {
       joined = one_joined stay (with_book w n k) u h g j z n i (booked node k) then_node q.joined.joined one went.moves went.goes;
       queries = queries;

@@ -163,8 +163,8 @@ module _ (stay : TakenStay) (w : World) (h : History) (n : ℕ) (node : Node) (s
     births = ((ends_call j X Gone 0).births, λ y. (ends_call j X Gone y).birth);
   }
 
-  went : Went n j z
-  went = went_one n j z (Clears X) (clears_node j X ∙ told.node live.made) refl
+  went : Went ev n j z
+  went = went_one ev n j z (Clears X) (clears_node j X ∙ told.node live.made) refl tt
       (clears_is j X (ap is_live told.phase ∙ phase_lives n t t.recovery (made.is_busy w h n i t live)))
 
   queries : QueriesJoined u h z
@@ -183,8 +183,8 @@ module _ (stay : TakenStay) (w : World) (h : History) (n : ℕ) (node : Node) (s
   unfolding moved
   same = refl
 
-  pub cleared_follows : Follows (with_book (moves_on w n node mv x) n b) (after h d) n j
-  cleared_follows = follows w h n node mv x d k b j z same went
+  pub cleared_follows : Follows ev (with_book (moves_on w n node mv x) n b) (after h d) n j
+  cleared_follows = follows ev w h n node mv x d k b j z same went
       (λ js goes.
       subst (λ g. AreJoined u g z) (sym history)
       (one_joined stay (with_book w n k) u h h j z n i (booked node k) (left node x b) q.joined.joined

@@ -6,6 +6,7 @@ use Rattle.id_table.specs.Ids.{at, put}
 use Rattle.id_table.specs.Order.{at_new, at_other}
 use Rattle.wire_base.specs.declared.pair.Pair.{Pair}
 use Rattle.session_book.specs.Books.{Kept, tunnel_at}
+use Rattle.control_message.specs.declared.message.Message.TheVariants.{Scccn}
 use Rattle.tunnel_fsm.specs.Rows.{state_number}
 use Rattle.tunnel_fsm.specs.declared.table.TunnelState.TheVariants.{WaitCtlConn, Established}
 use Rattle.end_model.specs.declared.event.Event.{Event}
@@ -53,6 +54,7 @@ use Rattle.join_laws.proofs.Channel.{heeds_one, heeds_all, questions_stay}
 use Rattle.join_laws.proofs.ComesOpen as opens
 use Rattle.join_laws.proofs.ComesOpen.{Comes, comes_by, ComesOpen}
 use Rattle.join_laws.proofs.Finish.{Went, went_one, follows}
+use Rattle.join_laws.proofs.Hearing.{heard_said}
 use Rattle.join_laws.proofs.Made as made
 use Rattle.join_laws.proofs.OneTunnel.{NameStays}
 use Rattle.join_laws.proofs.Partners.{Partner, no_self, of_acceptor, accepted_so}
@@ -448,12 +450,14 @@ module _ (grow : ChannelsGrow) (births : BirthsOfRuns) (coverage : CoverageOfRun
     comes = comes_by j y z X (j.tunnels.learned X) [] 1 (established_comes j X) goes (connected_calls j X);
   }
 
-  went : Went n j z
-  went = went_one n j z (Delivers X S 0 place 0) (delivers_node j X S 0 place 0 ∙ told.node live.made) refl
+  went : Went ev n j z
+  went = went_one ev n j z (Delivers X S 0 place 0) (delivers_node j X S 0 place 0 ∙ told.node live.made) refl
+      (heard_said ev j X S 0 place 0 machine_letters.Scccn stands q.moved.does.letter q.moved.does.takes.next.comes.came
+      (Scccn q.moved.does.response) q.moved.does.said refl)
       (confirms_step j X S place phase (name_some from.node from.tunnel opener.some) back entered next stands)
 
-  pub confirmed_follows : Follows (with_book (moves_on w n node mv x) n b) (after h d) n j
-  confirmed_follows = follows w h n node mv x d k b j z same went
+  pub confirmed_follows : Follows ev (with_book (moves_on w n node mv x) n b) (after h d) n j
+  confirmed_follows = follows ev w h n node mv x d k b j z same went
       (λ js goes_so. opens.open_joined grow.stay births coverage w h g n node sender moment ev mv x d k j q b z i t r account [] [] 1
       (j.tunnels.learned X) comes_open js goes_so)
       (opens.open_queries grow.stay births coverage w h g n node sender moment ev mv x d k j q b z i t r account [] [] 1

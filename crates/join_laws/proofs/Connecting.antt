@@ -8,7 +8,7 @@ use Rattle.wire_base.specs.declared.pair.Pair.{Pair}
 use Rattle.session_book.specs.Books.{Kept, tunnel_at}
 use Rattle.tunnel_fsm.specs.Rows.{state_number}
 use Rattle.tunnel_fsm.specs.declared.table.TunnelState.TheVariants.{WaitCtlReply, Established}
-use Rattle.control_message.specs.declared.message.Message.TheVariants.{Scccn}
+use Rattle.control_message.specs.declared.message.Message.TheVariants.{Sccrp, Scccn}
 use Rattle.end_model.specs.declared.event.Event.{Event}
 use Rattle.end_model.specs.declared.moves.Connected.{Connected}
 use Rattle.end_model.specs.declared.moves.Restored.{Restored}
@@ -57,6 +57,7 @@ use Rattle.join_laws.proofs.ComesOpen as opens
 use Rattle.join_laws.proofs.ComesOpen.{Comes, comes_by, ComesOpen}
 use Rattle.join_laws.proofs.Confirming.{takes_first}
 use Rattle.join_laws.proofs.Finish.{Went, went_one, follows}
+use Rattle.join_laws.proofs.Hearing.{heard_said}
 use Rattle.join_laws.proofs.Made as made
 use Rattle.join_laws.proofs.OneTunnel.{NameStays}
 use Rattle.join_laws.proofs.Partners.{partner_some, no_self, accepted_so}
@@ -442,12 +443,14 @@ module _ (grow : ChannelsGrow) (births : BirthsOfRuns) (coverage : CoverageOfRun
     comes = comes_by j y z X S (machine_letters.Scccn ∷ []) 1 (connected_comes j X S) goes calls;
   }
 
-  went : Went n j z
-  went = went_one n j z (Delivers X S 0 place 0) (delivers_node j X S 0 place 0 ∙ told.node live.made) refl
+  went : Went ev n j z
+  went = went_one ev n j z (Delivers X S 0 place 0) (delivers_node j X S 0 place 0 ∙ told.node live.made) refl
+      (heard_said ev j X S 0 place 0 machine_letters.Sccrp stands q.moved.does.letter q.moved.does.takes.next.comes.came
+      (Sccrp q.moved.does.opening) q.moved.does.said refl)
       (connects_step j X S place phase (name_some from.node from.tunnel some_remote) back entered next stands ∙ connects_is j X S)
 
-  pub connected_follows : Follows (with_book (moves_on w n node mv x) n b) (after h d) n j
-  connected_follows = follows w h n node mv x d k b j z same went
+  pub connected_follows : Follows ev (with_book (moves_on w n node mv x) n b) (after h d) n j
+  connected_follows = follows ev w h n node mv x d k b j z same went
       (λ js goes_so. opens.open_joined grow.stay births coverage w h g n node sender moment ev mv x d k j q b z i t r account (last ∷ [])
       (machine_letters.Scccn ∷ []) 1 S comes_open js goes_so)
       (opens.open_queries grow.stay births coverage w h g n node sender moment ev mv x d k j q b z i t r account (last ∷ [])

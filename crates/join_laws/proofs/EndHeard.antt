@@ -50,6 +50,7 @@ use Rattle.join_laws.proofs.CallMoves.{with_calls, with_calls_tunnels, delivers_
 use Rattle.join_laws.proofs.Channel.{gives_is, sent_none}
 use Rattle.join_laws.proofs.Finish.{went_one}
 use Rattle.join_laws.proofs.HeardNext.{heard_so}
+use Rattle.join_laws.proofs.Hearing.{heard_none}
 use Rattle.join_laws.proofs.Made as made
 use Rattle.join_laws.proofs.Taking as taking
 use Rattle.join_laws.proofs.Taking.{Takes, TakesIn, TookLetter}
@@ -317,7 +318,7 @@ module _ (keep : calm.MovesKeep) (plainly : calm.PlainIsHeard) (codecs : Codecs)
     births = turning.turned_births w h n node sender moment ev mv x d k j q b z i s t turned;
   }
 
-  pub end_heard_follows : Follows (with_book (moves_on w n node mv x) n b) (after h d) n j
+  pub end_heard_follows : Follows ev (with_book (moves_on w n node mv x) n b) (after h d) n j
   end_heard_follows =
       talks_follow grow w h n node sender moment ev mv x d k b j z q t r [] [] 1
       (taking.takes_talks w h n node sender moment ev mv x d k j q t m.taken.number [] takes_it took no_stop grow b z r
@@ -328,11 +329,12 @@ module _ (keep : calm.MovesKeep) (plainly : calm.PlainIsHeard) (codecs : Codecs)
         asks = turning.turned_asks w h n node sender moment ev mv x d k j q b z i s t turned;
         held = turning.turned_held w h n node sender moment ev mv x d k j q b z i s t turned;
         named = turning.turned_named w h n node sender moment ev mv x d k j q b z i s t turned;
-        went = went_one n j z (Delivers X S e place 0)
+        went = went_one ev n j z (Delivers X S e place 0)
             (delivers_node j X S e place 0
             ∙ (made.told w h n node sender moment ev mv x d k j q m.tunnel t at_t).node (made.live_ok w h n node sender moment ev mv x
             d k j q m.tunnel t at_t).made)
-            refl (end_step j X S e place own header from stands);
+            refl (heard_none ev j X S e place 0 (machine_letters.Cdn own header) stands refl)
+            (end_step j X S e place own header from stands);
       })
 
 pub end_heard_joins : calm.MovesKeep → calm.PlainIsHeard → Codecs → WrittenIsRead → WrittenHasRoom → ClassIsTrue → ChannelsGrow

@@ -299,17 +299,17 @@ module _ (keep : calm.MovesKeep) (codecs : Codecs) (again : WrittenIsRead) (room
     births = turning.turned_births w h n node sender moment ev mv x d k j q b z i s t turned;
   })
 
-  pub end_silent_follows : Follows (with_book (moves_on w n node mv x) n b) (after h d) n j
+  pub end_silent_follows : Follows ev (with_book (moves_on w n node mv x) n b) (after h d) n j
   end_silent_follows = talks_follow grow w h n node sender moment ev mv x d k b j z q t r [] [] 0 talks peers (record {
     same = same;
     query = refl;
     asks = turning.turned_asks w h n node sender moment ev mv x d k j q b z i s t turned;
     held = turning.turned_held w h n node sender moment ev mv x d k j q b z i s t turned;
     named = turning.turned_named w h n node sender moment ev mv x d k j q b z i s t turned;
-    went = went_one n j z (moves.EndsSilent Z)
+    went = went_one ev n j z (moves.EndsSilent Z)
         (silent_node j Z ∙ (ap (λ y. j.tunnels.node y) was_joined.tunnel
         ∙ told.node (made.live_ok w h n node sender moment ev mv x d k j q i t at_t).made))
-        refl does;
+        refl tt does;
   })
 
 pub end_silent_joins : calm.MovesKeep → Codecs → WrittenIsRead → WrittenHasRoom → ChannelsGrow → BirthsOfRuns → (m : EndSilent)

@@ -219,7 +219,7 @@ module _ (grow : ChannelsGrow) (w : World) (h : History) (n : ℕ) (node : Node)
     births = turning.turned_births w h n node sender moment ev mv x d k j q b z i s t turned;
   }
 
-  pub told_follows : Follows (with_book (moves_on w n node mv x) n b) (after h d) n j
+  pub told_follows : Follows ev (with_book (moves_on w n node mv x) n b) (after h d) n j
   told_follows =
       talks_follow grow w h n node sender moment ev mv x d k b j z q t r (l ∷ []) (machine_letters.Cdn Z R ∷ []) 0
       (gives_talks w h n node sender moment ev mv x d k j q l gives_it grow b z t r (machine_letters.Cdn Z R ∷ []) in_tunnel)
@@ -229,11 +229,11 @@ module _ (grow : ChannelsGrow) (w : World) (h : History) (n : ℕ) (node : Node)
         asks = turning.turned_asks w h n node sender moment ev mv x d k j q b z i s t turned;
         held = turning.turned_held w h n node sender moment ev mv x d k j q b z i s t turned;
         named = turning.turned_named w h n node sender moment ev mv x d k j q b z i s t turned;
-        went = went_one n j z (moves.EndsTold Z)
+        went = went_one ev n j z (moves.EndsTold Z)
             (told_node j Z ∙ (ap (λ y. j.tunnels.node y) was_joined.tunnel
             ∙ (made.told w h n node sender moment ev mv x d k j q i t at_t).node
             (made.live_ok w h n node sender moment ev mv x d k j q i t at_t).made))
-            refl
+            refl tt
             (told_is j X Z R was_joined.tunnel
             (was_joined.remote ∙ sym (ap (λ y. name_of (h.accounts n i 0).peer y) q.moved.does.remote))
             (made.open_is w h n node sender moment ev mv x d k j q i t at_t q.moved.does.current three)

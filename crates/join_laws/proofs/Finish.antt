@@ -22,30 +22,39 @@ use Rattle.channel_laws.specs.Steps.{with_end, moves_on}
 use Rattle.recovery_laws.specs.Growing.{TakenStay}
 use Rattle.recovery_laws.specs.Queries.{QueriesJoined, CallsAreNamed}
 use Rattle.recovery_laws.specs.Joined.{AreJoined}
+use Rattle.join_laws.specs.Hearing.{IsHeard, AreHeard}
 use Rattle.join_laws.specs.Steps as steps
 use Rattle.join_laws.specs.Steps.{with_book, AreOf, Follows, IsJoined}
 use Rattle.join_laws.proofs.Ahead.{behind}
 
--- the machine went on by these moves of the node
-pub record Went (n : ℕ) (m z : machine.World) : Type 0 where
+-- the machine went on by these moves of the node, each of which takes what the step hears
+pub record Went (ev : Event) (n : ℕ) (m z : machine.World) : Type 0 where
   pub moves : List moves.Move
   pub own : AreOf n m moves
+  pub heard : AreHeard ev m moves
   pub goes : z ≡ goes_on all_rules m moves
 
 -- by one
-pub went_one : (n : ℕ) (m z : machine.World) (j : moves.Move) → node_of m j ≡ n → is_outage j ≡ false → step all_rules m j ≡ z → Went n m z
-went_one n m z j node none is = record { moves = j ∷ []; own = (node, none, tt); goes = sym is ∙ sym (one_step all_rules m j) }
+pub went_one : (ev : Event) (n : ℕ) (m z : machine.World) (j : moves.Move) → node_of m j ≡ n → is_outage j ≡ false → IsHeard ev m j
+    → step all_rules m j ≡ z → Went ev n m z
+went_one ev n m z j node none heard is = record {
+  moves = j ∷ [];
+  own = (node, none, tt);
+  heard = (heard, tt);
+  goes = sym is ∙ sym (one_step all_rules m j);
+}
 
 -- the world behind the move is joined
-pub follows : (w : World) (h : History) (n : ℕ) (node : Node) (m : Move) (x : End) (d : Deed) (k b : Kept) (j z : machine.World)
-    → moves_on w n node m x ≡ with_end w n node x → (t : Went n j z)
+pub follows : (ev : Event) (w : World) (h : History) (n : ℕ) (node : Node) (m : Move) (x : End) (d : Deed) (k b : Kept)
+    (j z : machine.World) → moves_on w n node m x ≡ with_end w n node x → (t : Went ev n j z)
     → ((js : List moves.Move) → z ≡ goes_on all_rules j js → AreJoined (behind w n node x b) (after h d) z)
     → QueriesJoined (behind w n node x b) (after h d) z → CallsAreNamed z
-    → Follows (with_book (moves_on w n node m x) n b) (after h d) n j
-follows w h n node m x d k b j z same t joined queries named =
-    subst (λ v. Follows (with_book v n b) (after h d) n j) (sym same) (record {
+    → Follows ev (with_book (moves_on w n node m x) n b) (after h d) n j
+follows ev w h n node m x d k b j z same t joined queries named =
+    subst (λ v. Follows ev (with_book v n b) (after h d) n j) (sym same) (record {
       moves = t.moves;
       own = t.own;
+      heard = t.heard;
       joined = subst (IsJoined (behind w n node x b) (after h d)) t.goes (record {
         joined = joined t.moves t.goes;
         queries = queries;

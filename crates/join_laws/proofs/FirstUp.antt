@@ -55,6 +55,7 @@ use Rattle.join_laws.proofs.Calls.{like_same, sessions_joined}
 use Rattle.join_laws.proofs.CallMoves.{then_gives, then_gives_tunnels, then_gives_calls, then_gives_goes, delivers_node}
 use Rattle.join_laws.proofs.Finish.{Went, went_one, follows, named_as}
 use Rattle.join_laws.proofs.Letters.{Talks, talks_one}
+use Rattle.join_laws.proofs.Hearing.{heard_said}
 use Rattle.join_laws.proofs.Made as made
 use Rattle.join_laws.proofs.OneCall.{HasCall, has_session, alone_in, OneSession, one_session}
 use Rattle.join_laws.proofs.OneTunnel.{CallStays, one_joined}
@@ -331,7 +332,7 @@ module _ (grow : ChannelsGrow) (w : World) (h : History) (n : ℕ) (node : Node)
     );
   }
 
-  pub first_up_follows : Follows (with_book (moves_on w n node mv x) n b) (after h d) n j
+  pub first_up_follows : Follows ev (with_book (moves_on w n node mv x) n b) (after h d) n j
   first_up_follows =
       talks_follow grow w h n node sender moment ev mv x d k b j z q t r (l ∷ []) (machine_letters.Connect own ∷ []) 1
       (taking.takes_talks w h n node sender moment ev mv x d k j q t m.taken.number (l ∷ []) takes_it took no_stop grow b z r
@@ -342,11 +343,13 @@ module _ (grow : ChannelsGrow) (w : World) (h : History) (n : ℕ) (node : Node)
         asks = λ y s. ap (λ (f : Calls). f.asks y s) machine_calls ∙ ap (λ f. f y s) up.asks;
         held = λ y f s. ap (λ (p : Calls). p.held y f s) machine_calls ∙ ap (λ p. p y f s) up.held;
         named = named_as j z (ap (λ (f : Calls). f.drawn) machine_calls ∙ up.drawn) q.joined.named;
-        went = went_one n j z (Delivers X S e place 0)
+        went = went_one ev n j z (Delivers X S e place 0)
             (delivers_node j X S e place 0
             ∙ (made.told w h n node sender moment ev mv x d k j q m.tunnel t at_t).node (made.live_ok w h n node sender moment ev mv x
             d k j q m.tunnel t at_t).made)
-            refl (first_step j X S e place own Z from stands was_joined.tunnel (was_joined.state ∙ row.was));
+            refl (heard_said ev j X S e place 0 (machine_letters.Reply own Z) stands q.moved.does.letter
+            q.moved.does.takes.next.comes.came (Icrp m.remote) q.moved.does.says.said refl)
+            (first_step j X S e place own Z from stands was_joined.tunnel (was_joined.state ∙ row.was));
       })
 
 pub first_up_joins : ChannelsGrow → (m : FirstUp) → Joins (move.FirstUp m)

@@ -205,8 +205,8 @@ module _ (stay : TakenStay) (w : World) (h : History) (n : ℕ) (node : Node) (s
   undrawn : j.tunnels.drawn C ≡ false
   undrawn = q.joined.joined.drawn n m.answer nfits cfits ∙ world.unused w h n node sender moment ev m x d k j q
 
-  went : Went n j z
-  went = went_one n j z (Freezes X A C m.send_from m.expect) (freezes_node j X A C m.send_from m.expect ∙ told.node live.made) refl
+  went : Went ev n j z
+  went = went_one ev n j z (Freezes X A C m.send_from m.expect) (freezes_node j X A C m.send_from m.expect ∙ told.node live.made) refl tt
       (freezes_it j X P A C m.send_from m.expect (ap is_established told.phase
       ∙ established_phase n t t.recovery q.moved.does.open_is) attempts_is
       (name_some p m.remote (world.link w h n node sender moment ev m x d k j q).to_some) back forth
@@ -559,11 +559,12 @@ module _ (stay : TakenStay) (w : World) (h : History) (n : ℕ) (node : Node) (s
     asked = asked;
   }) q.joined.queries
 
-  pub froze_follows : Follows (with_book (moves_on w n node mv x) n b) (after h d) n j
+  pub froze_follows : Follows ev (with_book (moves_on w n node mv x) n b) (after h d) n j
   froze_follows =
-      subst (λ v. Follows (with_book v n b) (after h d) n j) (sym (world.moves_is w h n node sender moment ev m x d k j q)) (record {
+      subst (λ v. Follows ev (with_book v n b) (after h d) n j) (sym (world.moves_is w h n node sender moment ev m x d k j q)) (record {
         moves = went.moves;
         own = went.own;
+        heard = went.heard;
         joined = subst (IsJoined u g) went.goes (record {
           joined = one_joined stay (with_book w n k) u h g j z n i (booked node k) left q.joined.joined one went.moves went.goes;
           queries = queries;

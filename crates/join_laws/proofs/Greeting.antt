@@ -140,15 +140,15 @@ module _ (grow : ChannelsGrow) (w : World) (h : History) (n : ℕ) (node : Node)
         (t, q.moved.does.there, q.moved.does.current, q.moved.does.open_is, ap (λ (y : Tunnel). y.query) (sym same))));
   }) q.joined.queries
 
-  went : Went n j z
-  went = went_one n j z (SaysHello X)
+  went : Went ev n j z
+  went = went_one ev n j z (SaysHello X)
       (hello_node j X ∙ (made.told w h n node sender moment ev mv x d k j q m.tunnel t q.moved.does.there).node
-      (made.live_ok w h n node sender moment ev mv x d k j q m.tunnel t q.moved.does.there).made) refl
+      (made.live_ok w h n node sender moment ev mv x d k j q m.tunnel t q.moved.does.there).made) refl tt
       (greets_is j X (made.open_is w h n node sender moment ev mv x d k j q m.tunnel t q.moved.does.there q.moved.does.current
       q.moved.does.open_is))
 
-  pub greeted_follows : Follows (with_book (moves_on w n node mv x) n b) (after h d) n j
-  greeted_follows = follows w h n node mv x d k b j z gives.same went
+  pub greeted_follows : Follows ev (with_book (moves_on w n node mv x) n b) (after h d) n j
+  greeted_follows = follows ev w h n node mv x d k b j z gives.same went
       (λ js goes. one_joined grow.stay (with_book w n k) (behind w n node x b) h (after h d) j z n m.tunnel (booked node k) (left node
       x b) q.joined.joined
       (talks_one grow.stay w h (after h d) n node x k b j z m.tunnel (epoch_of w n m.tunnel) t r (l ∷ []) (machine_letters.Hello ∷ [])

@@ -10,6 +10,7 @@ pub mod Calls
 pub mod Asks
 pub mod Made
 pub mod Channel
+pub mod Hearing
 pub mod Finish
 pub mod Entering
 pub mod Giving

@@ -297,14 +297,14 @@ module _ (grow : ChannelsGrow) (w : World) (h : History) (n : ℕ) (node : Node)
         (gave_calls y X machine_letters.Sccrq).0;
   }
 
-  went : Went n j z
-  went = went_one n j z (moves.Opens n p X) (opens_node j n p X) refl
+  went : Went ev n j z
+  went = went_one ev n j z (moves.Opens n p X) (opens_node j n p X) refl tt
       (opens_is j n p X (made.up_before w h n node sender moment ev mv x d k j q)
       (new_tunnels.new_name w h n node sender moment ev mv x d k j q i q.moved.does.drawn)
       (new_tunnels.new_unused w h n node sender moment ev mv x d k j q i q.moved.does.drawn))
 
-  pub opened_follows : Follows (with_book (moves_on w n node mv x) n b) (after h d) n j
-  opened_follows = follows w h n node mv x d k b j z same went
+  pub opened_follows : Follows ev (with_book (moves_on w n node mv x) n b) (after h d) n j
+  opened_follows = follows ev w h n node mv x d k b j z same went
       (λ js goes_on. new_tunnels.new_joined w h n node sender moment ev mv x d k j q i q.moved.does.drawn grow.stay g b z r account
       (machine_letters.Sccrq ∷ []) 0 p (j.tunnels.learned X) is_new_one js goes_on)
       (new_tunnels.new_queries w h n node sender moment ev mv x d k j q i q.moved.does.drawn grow.stay g b z r account

@@ -21,7 +21,7 @@ use Rattle.step_laws.specs.Letters.{Letter}
 use Rattle.step_laws.specs.Arrivals.{Came, IsNext}
 use Rattle.step_laws.specs.Moves.{IsPlain}
 use Rattle.frame_laws.specs.Codecs.{Codecs}
-use Rattle.frame_laws.specs.Plain.{without_number, AreAlike, message_there}
+use Rattle.frame_laws.specs.Plain.{without_number, AreAlike, IsReadAs, AsAMessage, AsAFault, message_there, no_message_there, fault_there}
 use Rattle.connection_laws.specs.Facts.{IsNoStop, IsStopCcn}
 use Rattle.connection_laws.specs.Steps as calm
 use Rattle.connection_laws.proofs.Alike.{IsNoRequest, of_all, carried, alike_back, stop_alike, read_plainly}
@@ -37,8 +37,10 @@ use Rattle.channel_laws.proofs.FirstMoves as first_moves
 use Rattle.channel_laws.proofs.FirstMoves.{alone_in}
 use Rattle.channel_laws.proofs.HeardLater.{NextLater, next_later}
 use Rattle.recovery_laws.specs.Queries.{said_in, weight}
+use Rattle.join_laws.specs.Hearing.{stage_of, stage_said, stage_in}
 use Rattle.join_laws.specs.Steps as steps
 use Rattle.join_laws.proofs.HeardAny.{either, part_later}
+use Rattle.join_laws.proofs.Hearing.{stage_alike, stage_there}
 use Rattle.join_laws.proofs.Within.{partner_by}
 
 -- ---- messages
@@ -94,29 +96,38 @@ weighs_one m none = refl
 
 -- ---- the letter, and as what it was read
 
--- a letter and what it was read as, with what is known of that
-pub record IsHeard (e : End) (t : Tunnel) (session : ℕ) (l : Letter) : Type 0 where
+-- a letter and what it was read as in what came in, with what is known of that
+pub record IsHeard (e : End) (t : Tunnel) (came : Came) (l : Letter) : Type 0 where
   pub message : Message
   pub alike : AreAlike l.message message
-  pub session_is : l.session ≡ session
-  pub why : IsNoRequest message → IsPlain e t session message
+  pub session_is : l.session ≡ came.header.session
+  pub why : IsNoRequest message → IsPlain e t came.header.session message
+  pub stage_is : stage_in came.body ≡ stage_of message
 
-module _ (e : End) (t : Tunnel) (session : ℕ) (l : Letter) (h : IsHeard e t session l) where
+-- what was read, whether it could be read or not
+stage_read : (m : Message) (body : List ℕ) → IsReadAs m body → stage_in body ≡ stage_of m
+stage_read m body (AsAMessage avps y pairs reads written alike) =
+    stage_there body y (message_there body avps y pairs reads) ∙ stage_alike y m (alike_back m y alike)
+stage_read m body (AsAFault avps own serial number is small pairs fault kind told) =
+    ap₂ (λ o f. stage_said o f) (no_message_there body avps own pairs fault kind told) (fault_there body avps own pairs fault kind told)
+    ∙ ap stage_of (sym is)
+
+module _ (e : End) (t : Tunnel) (came : Came) (l : Letter) (h : IsHeard e t came l) where
   pub heard_no_stop : is_closed t.control.state ≡ false → IsStopCcn l.message → ⊥
   heard_no_stop works stops =
       not_both h.message (stop_alike h.message l.message (alike_back l.message h.message h.alike) stops)
-      (plain_no_stop e t session h.message works h.why)
+      (plain_no_stop e t came.header.session h.message works h.why)
 
   pub heard_no_query : (IsOfQuery h.message → ⊥) → IsOfQuery l.message → ⊥
   heard_no_query none query = none (carried IsOfQuery (of_all IsOfQuery (λ own serial calling k. k) (λ own serial calling k. k)) h.message
       l.message (alike_back l.message h.message h.alike) query)
 
   pub heard_said : (IsOfQuery h.message → ⊥) → (n p : ℕ) (asked : List Pair)
-      → said_in n p asked l.session l.message ≡ spoken n p session h.message ∷ []
+      → said_in n p asked l.session l.message ≡ spoken n p came.header.session h.message ∷ []
   heard_said none n p asked =
       said_one n p asked l.session l.message (heard_no_query none)
       ∙ (ap (λ s. spoken n p s l.message ∷ []) h.session_is
-      ∙ ap (λ y. y ∷ []) (alike_spoken n p session l.message h.message h.alike))
+      ∙ ap (λ y. y ∷ []) (alike_spoken n p came.header.session l.message h.message h.alike))
 
 module _ (keep : calm.MovesKeep) (plainly : calm.PlainIsHeard) (codecs : Codecs) (again : WrittenIsRead) (room : WrittenHasRoom)
     (classes : ClassIsTrue) (w : World) (h : History) (n : ℕ) (node : Node) (sender : Option Sender) (moment : ℕ) (ev : Event) (m : Move)
@@ -138,12 +149,12 @@ module _ (keep : calm.MovesKeep) (plainly : calm.PlainIsHeard) (codecs : Codecs)
   a = h.accounts n (about m) (epoch_of w n (about m))
 
   abbrev Heard : Type 0
-  Heard = IsHeard node.end t came.header.session letter
+  Heard = IsHeard node.end t came letter
 
   partner_is : partner_in h.accounts e a ≡ h.accounts from.node from.tunnel e
   partner_is = let p = partner_by a from partner in ap₂ (λ y z. h.accounts y z e) p.0 p.1
 
-  heard_later : (epoch_of w n (about m) ≡ 0 → ⊥) → IsHeard node.end t came.header.session letter
+  heard_later : (epoch_of w n (about m) ≡ 0 → ⊥) → IsHeard node.end t came letter
   heard_later later =
       let l : NextLater h n i e sender came next.comes.came.bytes =
       next_later codecs again room w h q.moved.holds n node q.moved.there sender ev q.moved.comes i e t at_t current refl
@@ -157,6 +168,9 @@ module _ (keep : calm.MovesKeep) (plainly : calm.PlainIsHeard) (codecs : Codecs)
         why = λ plain. why l.letter.message (ap message_in next.comes.came.body_is ∙ either l.reads
             (λ p. read_plainly l.letter.message _ p.reads plain)
             (λ p. message_there _ p.avps l.letter.message p.pairs p.said));
+        stage_is = ap stage_in next.comes.came.body_is ∙ either l.reads
+            (λ p. stage_read l.letter.message _ p.reads)
+            (λ p. stage_there _ l.letter.message (message_there _ p.avps l.letter.message p.pairs p.said));
       }
 
   module _ (first : epoch_of w n (about m) ≡ 0) where
@@ -184,13 +198,14 @@ module _ (keep : calm.MovesKeep) (plainly : calm.PlainIsHeard) (codecs : Codecs)
         first (ap (λ (y : Sender). slice_get (h.accounts y.node y.tunnel e).given (length a.taken)) (sym same) ∙ there) in
         same_Some letter given.letter (sym found ∙ given.there)
 
-    heard_first : IsHeard node.end t came.header.session letter
+    heard_first : IsHeard node.end t came letter
     heard_first = record {
       message = plain.message;
       alike = subst (λ (y : Letter). AreAlike y.message plain.message) (sym one) given.message_is;
       session_is = subst (λ (y : Letter). y.session ≡ came.header.session) (sym one) given.session_is;
       why = so;
+      stage_is = stage_read plain.message came.body plain.reads;
     }
 
-  pub heard_plain : IsHeard node.end t came.header.session letter
+  pub heard_plain : IsHeard node.end t came letter
   heard_plain = ⊎_elim (λ first. heard_first first) (λ later. heard_later later) (same_or_not e 0)

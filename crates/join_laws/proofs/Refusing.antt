@@ -19,7 +19,7 @@ use Rattle.end_model.specs.declared.moves.Move.{Move}
 use Rattle.end_model.specs.declared.moves.Move.TheVariants as move
 use Rattle.end_model.specs.Channels.{counts_taken}
 use Rattle.end_model.specs.Moments.{is_closed}
-use Rattle.end_model.specs.Reading.{message_in, call_fault_in}
+use Rattle.end_model.specs.Reading.{message_in, CallFault, call_fault_in}
 use Rattle.end_model.specs.Tunnels.{Tunnel}
 use Rattle.end_model.specs.End.{End}
 use Rattle.world_model.specs.World.{World, Node, Sender, Deed, epoch_of, moved}
@@ -49,6 +49,7 @@ use Rattle.recovery_laws.specs.Growing.{ChannelsGrow}
 use Rattle.recovery_laws.specs.Joined.{TunnelJoined, NodeJoined}
 use Rattle.recovery_laws.specs.Queries.{said_in, letters_in, first_of, rest_of, asks_in, answers_in, question_of, questions_in, weight}
 use Rattle.recovery_laws.proofs.Asking.{may_take_it}
+use Rattle.join_laws.specs.Hearing.{stage_of_kind, Hears}
 use Rattle.join_laws.specs.Roles.{IsAsking, RequestsAreOfLacs, JoinsByRoles}
 use Rattle.join_laws.specs.Steps as steps
 use Rattle.join_laws.specs.Steps.{with_book, Follows}
@@ -57,6 +58,8 @@ use Rattle.join_laws.proofs.CallMoves.{then_gives, then_gives_tunnels, then_give
 use Rattle.join_laws.proofs.Calls.{AreLike, like_in, like_same, sessions_joined, unchanged, same_stays}
 use Rattle.join_laws.proofs.Channel.{gives_is, sent_one}
 use Rattle.join_laws.proofs.Finish.{went_one, named_as}
+use Rattle.join_laws.proofs.HeardAny.{fault_is}
+use Rattle.join_laws.proofs.Hearing.{heard_at, hears_said, hears_fault}
 use Rattle.join_laws.proofs.Made as made
 use Rattle.join_laws.proofs.NextAlike.{next_alike, next_faulty}
 use Rattle.join_laws.proofs.Taking as taking
@@ -84,11 +87,11 @@ refused_step w x s e k own t stands some drawn =
 
 -- ---- letters that ask for none
 
-abbrev is_request : machine_letters.Letter → Bool
+abbrev pub is_request : machine_letters.Letter → Bool
 is_request (machine_letters.Request own) = true
 is_request l = false
 
-abbrev NoRequest : machine_letters.Letter → Type 0
+abbrev pub NoRequest : machine_letters.Letter → Type 0
 NoRequest l = is_request l ≡ false
 
 all_more : (xs ys : List machine_letters.Letter) → AllByRecursion NoRequest xs → AllByRecursion NoRequest ys
@@ -124,7 +127,7 @@ said_none n m asked header (message.Icrp remote) other = (refl, tt)
 said_none n m asked header (message.Iccn speed framing sequenced) other = (refl, tt)
 said_none n m asked header (message.Cdn remote code error) other = (refl, tt)
 
-letters_none : (n m : ℕ) (qs : List (List Pair)) (ls : List Letter) → AllByRecursion (λ (l : Letter). IsAsking l.message → ⊥) ls
+pub letters_none : (n m : ℕ) (qs : List (List Pair)) (ls : List Letter) → AllByRecursion (λ (l : Letter). IsAsking l.message → ⊥) ls
     → AllByRecursion NoRequest (letters_in n m qs ls)
 letters_none n m qs [] h = tt
 letters_none n m qs (l ∷ ls) h =
@@ -143,6 +146,16 @@ no_reply_asks m r own serial calling is alike =
 no_reply_places : (m : Message) (r own : ℕ) → m ≡ message.Icrp r → AreAlike m (message.Ocrq own) → ⊥
 no_reply_places m r own is alike =
     let two : AreAlike (message.Icrp r) (message.Ocrq own) = subst (λ y. AreAlike y (message.Ocrq own)) is alike in cc
+
+no_request_replies : (m : Message) (r own serial : ℕ) (calling : Option (List ℕ)) → m ≡ message.Icrq own serial calling
+    → AreAlike m (message.Icrp r) → ⊥
+no_request_replies m r own serial calling is alike =
+    let two : AreAlike (message.Icrq own serial calling) (message.Icrp r) = subst (λ y. AreAlike y (message.Icrp r)) is alike in cc
+
+no_request_places : (m : Message) (r own serial : ℕ) (calling : Option (List ℕ)) → m ≡ message.Icrq own serial calling
+    → AreAlike m (message.Ocrq r) → ⊥
+no_request_places m r own serial calling is alike =
+    let two : AreAlike (message.Icrq own serial calling) (message.Ocrq r) = subst (λ y. AreAlike y (message.Ocrq r)) is alike in cc
 
 -- ---- the move
 
@@ -352,10 +365,36 @@ module _ (keep : calm.MovesKeep) (plainly : calm.PlainIsHeard) (codecs : Codecs)
       births = (ap (λ (c : Calls). c.births) machine_calls, λ y. ap (λ (c : Calls). c.birth y) machine_calls);
     }
 
+    -- the step hears a request, whether its number could be had or not
+    hears_request : WhyRefused node.end t q.moved.does.letter.header.session (message_in q.moved.does.letter.body)
+        (call_fault_in q.moved.does.letter.body) m
+        → Hears ev 5
+    hears_request (IsNotGranted remote number who said none named denied) =
+        hears_said ev q.moved.does.letter q.moved.does.takes.next.comes.came (message.Icrq remote number who) said
+    hears_request (IsOutgoing remote said named result error) = absurd (no_request_places took.letter.message remote m.remote serial
+        calling asks
+        (next_alike keep plainly codecs again room classes w h n node sender moment ev mv x d k j q t at_t q.moved.does.current works
+        q.moved.does.letter q.moved.does.takes.next took.from took.letter took.sender_is took.partner took.there
+        (message.Ocrq remote) tt said))
+    hears_request (IsReplyToNone remote said none lns named result error) = absurd (no_request_replies took.letter.message remote
+        m.remote serial calling asks
+        (next_alike keep plainly codecs again room classes w h n node sender moment ev mv x d k j q t at_t q.moved.does.current works
+        q.moved.does.letter q.moved.does.takes.next took.from took.letter took.sender_is took.partner took.there
+        (message.Icrp remote) tt said))
+    hears_request (IsWrong f fault named result error) =
+        let own = fault_is keep codecs again room w h n node sender moment ev mv x d k j q t at_t q.moved.does.current
+        q.moved.does.letter.header.session f (record {
+          letter = q.moved.does.letter;
+          comes = q.moved.does.takes.next.comes;
+          says = record { session_is = refl; fault = fault };
+        }) in
+        subst (λ (o : CallFault). Hears ev (stage_of_kind o.kind)) own.1
+        (hears_fault ev q.moved.does.letter q.moved.does.takes.next.comes.came f fault)
+
     some_name : (y : ℕ) → y ≢ 0 → 0 < y
     some_name y some = omega (arith, some)
 
-    request_follows : Follows (with_book (moves_on w n node mv x) n b) (after h d) n j
+    request_follows : Follows ev (with_book (moves_on w n node mv x) n b) (after h d) n j
     request_follows =
         talks_follow grow w h n node sender moment ev mv x d k b j z q t r (l ∷ []) (machine_letters.Cdn 0 asker ∷ []) 1
         (taking.takes_talks w h n node sender moment ev mv x d k j q t m.taken.number (l ∷ []) takes_it took no_stop grow b z r
@@ -366,13 +405,15 @@ module _ (keep : calm.MovesKeep) (plainly : calm.PlainIsHeard) (codecs : Codecs)
           asks = λ y s. ap (λ (f : Calls). f.asks y s) machine_calls;
           held = λ y f s. ap (λ (p : Calls). p.held y f s) machine_calls;
           named = named_as j z (ap (λ (f : Calls). f.drawn) machine_calls) q.joined.named;
-          went = went_one n j z (Delivers X S e place asker)
+          went = went_one ev n j z (Delivers X S e place asker)
               (delivers_node j X S e place asker
               ∙ told.node (made.live_ok w h n node sender moment ev mv x d k j q m.tunnel t at_t).made)
-              refl (refused_step j X S e place asker from stands (some_name asker drawn.0) drawn.1);
+              refl
+              (heard_at ev j X S e place asker (machine_letters.Request asker) stands (λ up. hears_request q.moved.does.why))
+              (refused_step j X S e place asker from stands (some_name asker drawn.0) drawn.1);
         })
 
-  pub refused_follows : Follows (with_book (moves_on w n node mv x) n b) (after h d) n j
+  pub refused_follows : Follows ev (with_book (moves_on w n node mv x) n b) (after h d) n j
   refused_follows = ⊎_elim
       (λ (asks : (serial : ℕ) × (calling : Option (List ℕ)) × (took.letter.message ≡ message.Icrq m.remote serial calling)).
       request_follows asks.0 asks.1 asks.2)

@@ -214,12 +214,12 @@ module _ (grow : ChannelsGrow) (epochs : EpochsOfRuns) (w : World) (h : History)
     learned = λ so. joined.ByLetter (unlearned ∙ sym early);
   }
 
-  went : Went n j z
-  went = went_one n j z (moves.Closes X) (closes_node j X ∙ told.node live.made) refl
+  went : Went ev n j z
+  went = went_one ev n j z (moves.Closes X) (closes_node j X ∙ told.node live.made) refl tt
       (closes_is j X (ap is_active phase_is ∙ works t.control.state (made.is_busy w h n i t live) not_shut))
 
-  pub rejected_follows : Follows (with_book (moves_on w n node mv x) n b) (after h d) n j
-  rejected_follows = follows w h n node mv x d k b j z same went
+  pub rejected_follows : Follows ev (with_book (moves_on w n node mv x) n b) (after h d) n j
+  rejected_follows = follows ev w h n node mv x d k b j z same went
       (λ js goes. shutting.shut_joined grow.stay w h g n node sender moment ev mv x d k j q b new y i e t r (last ∷ [])
       (machine_letters.StopCcn ∷ []) shuts q.joined.joined js goes)
       (shutting.shut_queries grow.stay w h g n node sender moment ev mv x d k j q b new y i e t r (last ∷ [])

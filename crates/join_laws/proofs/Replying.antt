@@ -58,6 +58,7 @@ use Rattle.join_laws.proofs.Channel.{gives_is, sent_one}
 use Rattle.join_laws.proofs.Finish.{Went, went_one}
 use Rattle.join_laws.proofs.Fresh as fresh
 use Rattle.join_laws.proofs.Letters.{Talks, talks_one}
+use Rattle.join_laws.proofs.Hearing.{heard_said}
 use Rattle.join_laws.proofs.Made as made
 use Rattle.join_laws.proofs.Moved.{book_births}
 use Rattle.join_laws.proofs.OneTunnel.{CallStays, OneTunnel, one_joined, this_or_not}
@@ -410,18 +411,22 @@ module _ (grow : ChannelsGrow) (runs : BirthsOfRuns) (w : World) (h : History) (
         )));
   }) q.joined.queries
 
-  went : Went n j z
-  went = went_one n j z (Delivers X S e place Z)
+  went : Went ev n j z
+  went = went_one ev n j z (Delivers X S e place Z)
       (delivers_node j X S e place Z
       ∙ (made.told w h n node sender moment ev mv x d k j q i t at_t).node (made.live_ok w h n node sender moment ev mv x d k j q i t
       at_t).made)
-      refl (request_step j X S e place own Z from stands (fresh.fresh_name w h n node sender moment ev mv x d k j q s q.moved.does.drawn)
+      refl
+      (heard_said ev j X S e place Z (machine_letters.Request own) stands q.moved.does.letter q.moved.does.takes.next.comes.came
+      (Icrq m.remote q.moved.does.serial q.moved.does.calling) q.moved.does.said refl)
+      (request_step j X S e place own Z from stands (fresh.fresh_name w h n node sender moment ev mv x d k j q s q.moved.does.drawn)
       undrawn)
 
-  pub replied_follows : Follows (with_book (moves_on w n node mv x) n b) (after h d) n j
-  replied_follows = subst (λ v. Follows (with_book v n b) (after h d) n j) (sym led_is) (record {
+  pub replied_follows : Follows ev (with_book (moves_on w n node mv x) n b) (after h d) n j
+  replied_follows = subst (λ v. Follows ev (with_book v n b) (after h d) n j) (sym led_is) (record {
     moves = went.moves;
     own = went.own;
+    heard = went.heard;
     joined = subst (IsJoined u g) went.goes (record {
       joined = one_joined grow.stay (with_book w n k) u h g j z n i (booked node k) then_node q.joined.joined one went.moves went.goes;
       queries = queries;

@@ -203,7 +203,7 @@ module _ (grow : ChannelsGrow) (w : World) (h : History) (n : ℕ) (node : Node)
     births = turning.turned_births w h n node sender moment ev mv x d k j q b z i s t turned;
   }
 
-  pub requested_follows : Follows (with_book (moves_on w n node mv x) n b) (after h d) n j
+  pub requested_follows : Follows ev (with_book (moves_on w n node mv x) n b) (after h d) n j
   requested_follows =
       talks_follow grow w h n node sender moment ev mv x d k b j z q t r (l ∷ []) (machine_letters.Request Z ∷ []) 0
       (gives_talks w h n node sender moment ev mv x d k j q l gives_it grow b z t r (machine_letters.Request Z ∷ []) in_tunnel)
@@ -213,11 +213,11 @@ module _ (grow : ChannelsGrow) (w : World) (h : History) (n : ℕ) (node : Node)
         asks = turning.turned_asks w h n node sender moment ev mv x d k j q b z i s t turned;
         held = turning.turned_held w h n node sender moment ev mv x d k j q b z i s t turned;
         named = turning.turned_named w h n node sender moment ev mv x d k j q b z i s t turned;
-        went = went_one n j z (Asks Z)
+        went = went_one ev n j z (Asks Z)
             (asks_node j Z ∙ (ap (λ y. j.tunnels.node y) was_joined.tunnel
             ∙ (made.told w h n node sender moment ev mv x d k j q i t at_t).node
             (made.live_ok w h n node sender moment ev mv x d k j q i t at_t).made))
-            refl
+            refl tt
             (asks_is j X Z was_joined.tunnel
             (made.open_is w h n node sender moment ev mv x d k j q i t at_t q.moved.does.current q.moved.does.open_is)
             (was_joined.state ∙ row.was));

@@ -25,7 +25,7 @@ use Rattle.join_laws.proofs.Channel.{gives_is}
 
 -- ---- roles
 
-abbrev role_in : Option Node → Option Role
+abbrev pub role_in : Option Node → Option Role
 role_in None = None
 role_in (Some node) = Some node.end.role
 
@@ -198,14 +198,21 @@ both_first false b is = absurd (true≢false (sym is))
 
 -- ---- the law
 
+-- a move leaves each node its role
+pub moves_role : (w : World) (h : History) (n : ℕ) (node : Node) (sender : Option Sender) (moment : ℕ) (ev : Event) (m : Move) (x : End)
+    (d : Deed) → IsMoved w h n node sender moment ev m x d → (p : ℕ)
+    → role_in (at (moves_on w n node m x).nodes p) ≡ role_in (at w.nodes p)
+moves_role w h n node sender moment ev m x d moves p =
+    moved_role n (with_end w n node x) m p
+    ∙ put_role w n node (record node { end = x }) moves.there (does_role moment ev node.end x m moves.does) p
+
 moves_stay : (w : World) (h : History) (n : ℕ) (node : Node) (sender : Option Sender) (moment : ℕ) (ev : Event) (m : Move) (x : End)
     (d : Deed) → IsMoved w h n node sender moment ev m x d → RequestsAreOfLacs w h → RequestsAreOfLacs (moves_on w n node m x) (after h d)
 moves_stay w h n node sender moment ev m x d moves roles p i e then_node there lns =
     declined_none (declines_of d.move p i && (e == 0)) _ (by (((d.node == p) && (about d.move == i)) && (d.epoch == e)) refl)
   where
     role_same : role_in (at (moves_on w n node m x).nodes p) ≡ role_in (at w.nodes p)
-    role_same = moved_role n (with_end w n node x) m p
-        ∙ put_role w n node (record node { end = x }) moves.there (does_role moment ev node.end x m moves.does) p
+    role_same = moves_role w h n node sender moment ev m x d moves p
 
     was : (c : Node) × (at w.nodes p ≡ Some c) × (c.end.role ≡ Lns)
     was = role_before (at w.nodes p) Lns (sym role_same ∙ (ap role_in there ∙ ap (λ r. Some r) lns))

@@ -46,6 +46,7 @@ use Rattle.join_laws.proofs.Books.{booked}
 use Rattle.join_laws.proofs.CallMoves.{with_calls, with_calls_tunnels, delivers_node}
 use Rattle.join_laws.proofs.Channel.{gives_is, sent_none}
 use Rattle.join_laws.proofs.Finish.{went_one}
+use Rattle.join_laws.proofs.Hearing.{heard_said}
 use Rattle.join_laws.proofs.Made as made
 use Rattle.join_laws.proofs.Taking as taking
 use Rattle.join_laws.proofs.Taking.{Takes, TakesIn, TookLetter}
@@ -216,7 +217,7 @@ module _ (grow : ChannelsGrow) (w : World) (h : History) (n : ℕ) (node : Node)
     births = turning.turned_births w h n node sender moment ev mv x d k j q b z i s t turned;
   }
 
-  pub second_up_follows : Follows (with_book (moves_on w n node mv x) n b) (after h d) n j
+  pub second_up_follows : Follows ev (with_book (moves_on w n node mv x) n b) (after h d) n j
   second_up_follows =
       talks_follow grow w h n node sender moment ev mv x d k b j z q t r [] [] 1
       (taking.takes_talks w h n node sender moment ev mv x d k j q t m.taken.number [] takes_it took no_stop grow b z r
@@ -227,11 +228,13 @@ module _ (grow : ChannelsGrow) (w : World) (h : History) (n : ℕ) (node : Node)
         asks = turning.turned_asks w h n node sender moment ev mv x d k j q b z i s t turned;
         held = turning.turned_held w h n node sender moment ev mv x d k j q b z i s t turned;
         named = turning.turned_named w h n node sender moment ev mv x d k j q b z i s t turned;
-        went = went_one n j z (Delivers X S e place 0)
+        went = went_one ev n j z (Delivers X S e place 0)
             (delivers_node j X S e place 0
             ∙ (made.told w h n node sender moment ev mv x d k j q m.tunnel t at_t).node (made.live_ok w h n node sender moment ev mv x
             d k j q m.tunnel t at_t).made)
-            refl (second_step j X S e place Z from stands was_joined.tunnel (was_joined.state ∙ row.was));
+            refl (heard_said ev j X S e place 0 (machine_letters.Connect Z) stands q.moved.does.letter
+            q.moved.does.takes.next.comes.came (Iccn q.moved.does.speed q.moved.does.framing m.sequenced) q.moved.does.says.said refl)
+            (second_step j X S e place Z from stands was_joined.tunnel (was_joined.state ∙ row.was));
       })
 
 pub second_up_joins : ChannelsGrow → (m : SecondUp) → Joins (move.SecondUp m)

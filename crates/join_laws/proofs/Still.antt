@@ -196,12 +196,12 @@ module _ (w : World) (h : History) (n : ℕ) (node : Node) (sender : Option Send
         )));
   }) q.joined.queries
 
-  went : Went n j j
+  went : Went ev n j j
   unfolding goes_on
-  went = record { moves = []; own = tt; goes = refl }
+  went = record { moves = []; own = tt; heard = tt; goes = refl }
 
-  pub still_follows : (i : ℕ) → Left n node.end x i → Follows (with_book (moves_on w n node m x) n b) (after h d) n j
-  still_follows i o = follows w h n node m x d k b j j same went
+  pub still_follows : (i : ℕ) → Left n node.end x i → Follows ev (with_book (moves_on w n node m x) n b) (after h d) n j
+  still_follows i o = follows ev w h n node m x d k b j j same went
       (λ js goes.
       subst (λ g. AreJoined later g j) (sym history)
       (still_joined w h n node q.moved.there x k b j q.joined.joined (phases_by i o) (kept_by i o)

@@ -52,6 +52,7 @@ use Rattle.recovery_laws.specs.Queries.{letters_in, question_of, questions_in, w
 use Rattle.recovery_laws.proofs.Asking.{none, may_take_it, heard_one}
 use Rattle.recovery_laws.proofs.Epochs.{current_phase}
 use Rattle.session_laws.proofs.Entering.{got_last}
+use Rattle.join_laws.specs.Hearing.{stage, Hears}
 use Rattle.join_laws.specs.Steps as steps
 use Rattle.join_laws.specs.Steps.{with_book, Follows, Joins}
 use Rattle.join_laws.proofs.Bounds.{fit_bounded}
@@ -60,6 +61,7 @@ use Rattle.join_laws.proofs.Calls.{AreLike, like_in, like_same, Sessions, sessio
 use Rattle.join_laws.proofs.Channel.{heeds_one, heeds_all, sent_none}
 use Rattle.join_laws.proofs.Entering as entering
 use Rattle.join_laws.proofs.Finish.{Went, went_one, named_as}
+use Rattle.join_laws.proofs.Hearing.{stage_spoken, heard_at}
 use Rattle.join_laws.proofs.Letters.{Talks}
 use Rattle.join_laws.proofs.Made as made
 use Rattle.join_laws.proofs.Partners.{partner_some, no_self}
@@ -330,18 +332,18 @@ module _ (keep : calm.MovesKeep) (plainly : calm.PlainIsHeard) (codecs : Codecs)
     took : TookLetter w h n node sender moment ev mv x d k j q t m.taken.number [] takes_it
     took = taking.took_letter w h n node sender moment ev mv x d k j q t m.taken.number [] takes_it
 
-    heard : IsHeard node.end t session took.letter
+    heard : IsHeard node.end t q.moved.does.letter took.letter
     heard = heard_plain keep plainly codecs again room classes w h n node sender moment ev mv x d k j q t at_t q.moved.does.current works
         q.moved.does.letter q.moved.does.next q.moved.does.why took.from took.letter took.sender_is took.partner took.there
 
     no_stop : IsStopCcn took.letter.message → ⊥
-    no_stop = heard_no_stop node.end t session took.letter heard works
+    no_stop = heard_no_stop node.end t q.moved.does.letter took.letter heard works
 
     none_asked : IsOfQuery heard.message → ⊥
     none_asked = no_query node.end t session heard.message works three heard.why
 
     none_said : IsOfQuery took.letter.message → ⊥
-    none_said = heard_no_query node.end t session took.letter heard none_asked
+    none_said = heard_no_query node.end t q.moved.does.letter took.letter heard none_asked
 
     abbrev S : ℕ
     S = name took.from.node took.from.tunnel
@@ -357,7 +359,7 @@ module _ (keep : calm.MovesKeep) (plainly : calm.PlainIsHeard) (codecs : Codecs)
 
     stands : slice_get (j.channels.sent S e) place ≡ Some says
     stands = taking.takes_stands w h n node sender moment ev mv x d k j q t m.taken.number [] takes_it took no_stop says
-        (λ asked. heard_said node.end t session took.letter heard none_asked took.from.node n asked)
+        (λ asked. heard_said node.end t q.moved.does.letter took.letter heard none_asked took.from.node n asked)
 
     plain : PlainTakes j X S says
     plain = plain_by births w h n node sender moment ev mv x d k j q i t at_t three
@@ -365,6 +367,13 @@ module _ (keep : calm.MovesKeep) (plainly : calm.PlainIsHeard) (codecs : Codecs)
         (taking.took_peer w h n node sender moment ev mv x d k j q t m.taken.number [] takes_it took no_stop) session
         (subst (λ s. s < 65536) heard.session_is (spelled_session e took.letter took.spelled)) S e place heard.message heard.why
         (alike_sized took.letter.message heard.message heard.alike (spelled_so e took.letter none_said took.spelled).written) stands
+
+    hears_it : Hears ev (stage says)
+    hears_it = record {
+      came = q.moved.does.letter;
+      comes = q.moved.does.next.comes.came;
+      is = heard.stage_is ∙ sym (stage_spoken took.from.node n session heard.message);
+    }
 
     abbrev z : machine.World
     z = with_calls j X plain.calls
@@ -395,7 +404,7 @@ module _ (keep : calm.MovesKeep) (plainly : calm.PlainIsHeard) (codecs : Codecs)
       births = plain.births;
     }
 
-    heeded_follows : Follows (with_book (moves_on w n node mv x) n b) (after h d) n j
+    heeded_follows : Follows ev (with_book (moves_on w n node mv x) n b) (after h d) n j
     heeded_follows =
         talks_follow grow w h n node sender moment ev mv x d k b j z q t r [] [] 1
         (taking.takes_talks w h n node sender moment ev mv x d k j q t m.taken.number [] takes_it took no_stop grow b z r [] 1 in_tunnel
@@ -406,10 +415,11 @@ module _ (keep : calm.MovesKeep) (plainly : calm.PlainIsHeard) (codecs : Codecs)
           asks = plain.asks;
           held = plain.held;
           named = named_as j z plain.drawn q.joined.named;
-          went = went_one n j z (Delivers X S e place 0)
+          went = went_one ev n j z (Delivers X S e place 0)
               (delivers_node j X S e place 0
               ∙ told.node (made.live_ok w h n node sender moment ev mv x d k j q m.tunnel t at_t).made)
-              refl (plain_step j X S e place says from stands
+              refl (heard_at ev j X S e place 0 says stands (λ up. hears_it))
+              (plain_step j X S e place says from stands
               (no_opening node.end t session heard.message works heard.why took.from.node n).1 ∙ plain.is);
         })
 
@@ -422,9 +432,9 @@ module _ (keep : calm.MovesKeep) (plainly : calm.PlainIsHeard) (codecs : Codecs)
     heeds : heeded then_is ≡ heeded a
     heeds = ap (λ o. unwrap_or o (length then_is.taken)) closed.1 ∙ sym (ap (λ o. unwrap_or o (length a.taken)) closed.1)
 
-    went_none : Went n j j
+    went_none : Went ev n j j
     unfolding goes_on
-    went_none = record { moves = []; own = tt; goes = refl }
+    went_none = record { moves = []; own = tt; heard = tt; goes = refl }
 
     within : (p f c : ℕ) → heeded (h.accounts p f c) ≤ length (partner_in h.accounts c (h.accounts p f c)).given
     within = made.within w h n node sender moment ev mv x d k j q
@@ -458,7 +468,7 @@ module _ (keep : calm.MovesKeep) (plainly : calm.PlainIsHeard) (codecs : Codecs)
       births = (refl, λ y. refl);
     }
 
-    ignored_follows : Follows (with_book (moves_on w n node mv x) n b) (after h d) n j
+    ignored_follows : Follows ev (with_book (moves_on w n node mv x) n b) (after h d) n j
     ignored_follows = talks_follow grow w h n node sender moment ev mv x d k b j j q t r [] [] 0 talks peers (record {
       same = same;
       query = refl;
@@ -517,7 +527,7 @@ module _ (keep : calm.MovesKeep) (plainly : calm.PlainIsHeard) (codecs : Codecs)
       partner_is : partner_in h.accounts e a ≡ c
       partner_is = let p = partner_by a giver partner in ap₂ (λ y z. h.accounts y z e) p.0 p.1
 
-      heard_it : IsHeard node.end t session letter
+      heard_it : IsHeard node.end t q.moved.does.letter letter
       heard_it = heard_plain keep plainly codecs again room classes w h n node sender moment ev mv x d k j q t at_t q.moved.does.current
           works_on q.moved.does.letter q.moved.does.next q.moved.does.why giver letter
           (sym q.moved.deed.sender_is ∙ taken_it.sender) partner there
@@ -567,7 +577,7 @@ module _ (keep : calm.MovesKeep) (plainly : calm.PlainIsHeard) (codecs : Codecs)
           (subst (λ y. slice_get (j.channels.sent (name giver.node giver.tunnel) e) y ≡ Some word) one
           (ap (λ ls. slice_get ls (weigh (take (length a.taken) c.given))) (told_there.sent e)
           ∙ says_one giver.node c.peer (questions_in c.taken) c.given (length a.taken) letter word there
-          (λ asked. heard_said node.end t session letter heard_it no_queries giver.node c.peer asked)))
+          (λ asked. heard_said node.end t q.moved.does.letter letter heard_it no_queries giver.node c.peer asked)))
 
       -- the second letter of an opener is an SCCCN or a StopCCN
       no_second : ⊥
@@ -584,10 +594,10 @@ module _ (keep : calm.MovesKeep) (plainly : calm.PlainIsHeard) (codecs : Codecs)
           more)
           (holds.opener_first (name giver.node giver.tunnel) 1 word (told_there.opener ∙ ap is_opener opener) stands_there)
 
-  pub took_plain_follows : Follows (with_book (moves_on w n node mv x) n b) (after h d) n j
+  pub took_plain_follows : Follows ev (with_book (moves_on w n node mv x) n b) (after h d) n j
   took_plain_follows = by t.control.state refl
     where
-      by : (s : TunnelState) → q.moved.does.tunnel.control.state ≡ s → Follows (with_book (moves_on w n node mv x) n b) (after h d) n j
+      by : (s : TunnelState) → q.moved.does.tunnel.control.state ≡ s → Follows ev (with_book (moves_on w n node mv x) n b) (after h d) n j
       by tunnel.Idle is =
           let some = made.is_busy w h n i t (made.live_ok w h n node sender moment ev mv x d k j q i t at_t) in
           let none = ap state_number is in

@@ -27,20 +27,20 @@ use Rattle.join_laws.proofs.Letters.{Talks, talks_one}
 use Rattle.join_laws.proofs.OneTunnel.{one_joined}
 
 -- what else such a move needs: the machine's calls, and its moves
-pub record Talked (w : World) (n : ℕ) (node : Node) (m : Move) (x : End) (j z : machine.World) (t r : Tunnel) : Type 0 where
+pub record Talked (ev : Event) (w : World) (n : ℕ) (node : Node) (m : Move) (x : End) (j z : machine.World) (t r : Tunnel) : Type 0 where
   pub same : moves_on w n node m x ≡ with_end w n node x
   pub query : r.query ≡ t.query
   pub asks : (y s : ℕ) → z.calls.asks y s ≡ j.calls.asks y s
   pub held : (y f s : ℕ) → z.calls.held y f s ≡ j.calls.held y f s
   pub named : CallsAreNamed z
-  pub went : Went n j z
+  pub went : Went ev n j z
 
 module _ (grow : ChannelsGrow) (w : World) (h : History) (n : ℕ) (node : Node) (sender : Option Sender) (moment : ℕ) (ev : Event) (m :
     Move) (x : End)
     (d : Deed) (k b : Kept) (j z : machine.World) (q : steps.IsMade w h n node sender moment ev m x d k j) (t r : Tunnel) (ls : List Letter)
     (says : List machine_letters.Letter) (took : ℕ) (o : Talks w h (after h d) n node x k b j z (about m) (epoch_of w n (about m)) t r
     ls says took)
-    (peers : (p i : ℕ) → ((after h d).accounts p i 0).peer ≡ (h.accounts p i 0).peer) (s : Talked w n node m x j z t r) where
+    (peers : (p i : ℕ) → ((after h d).accounts p i 0).peer ≡ (h.accounts p i 0).peer) (s : Talked ev w n node m x j z t r) where
   queries : QueriesJoined (behind w n node x b) (after h d) z
   queries = asks_on (with_book w n k) (behind w n node x b) h (after h d) j z (record {
     peers = peers;
@@ -58,8 +58,8 @@ module _ (grow : ChannelsGrow) (w : World) (h : History) (n : ℕ) (node : Node)
         )));
   }) q.joined.queries
 
-  pub talks_follow : Follows (with_book (moves_on w n node m x) n b) (after h d) n j
-  talks_follow = follows w h n node m x d k b j z s.same s.went
+  pub talks_follow : Follows ev (with_book (moves_on w n node m x) n b) (after h d) n j
+  talks_follow = follows ev w h n node m x d k b j z s.same s.went
       (λ js goes.
       one_joined grow.stay (with_book w n k) (behind w n node x b) h (after h d) j z n (about m) (booked node k) (left node x b)
       q.joined.joined

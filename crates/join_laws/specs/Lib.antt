@@ -1,3 +1,4 @@
+pub mod Hearing
 pub mod Steps
 pub mod Moves
 pub mod Roles

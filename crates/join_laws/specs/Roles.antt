@@ -1,4 +1,5 @@
--- What moves need of the roles of ends: who asks for calls is a LAC. An end's role never changes, also where its node falls and starts again.
+-- What moves need of the roles of ends: who asks for calls is a LAC. An end's role never changes, also where its node falls and starts
+-- again.
 use Rattle.std.specs.Prelude.{◌≡◌, ◌⊎◌, ℕ, List, [], Option, Some}
 use Rattle.std.specs.List.{AllByRecursion}
 use Rattle.id_table.specs.Ids.{at}
@@ -46,7 +47,7 @@ pub record RequestsStay : Type 0 where
 abbrev pub JoinsByRoles : Move → Type 0
 JoinsByRoles m = (w : World) (h : History) (n : ℕ) (node : Node) (sender : Option Sender) (moment : ℕ) (ev : Event) (x : End) (d : Deed)
     (k : Kept) (j : machine.World) → RequestsAreOfLacs w h → IsMade w h n node sender moment ev m x d k j → (b : Kept) → Mirrors x b
-    → Follows (with_book (moves_on w n node m x) n b) (after h d) n j
+    → Follows ev (with_book (moves_on w n node m x) n b) (after h d) n j
 
 -- a request is refused
 abbrev pub IsRefusing : Move → Type 0

@@ -22,6 +22,7 @@ use Rattle.channel_laws.specs.Steps.{moves_on, IsMoved}
 use Rattle.recovery_laws.specs.Answered.{AllAnswer}
 use Rattle.recovery_laws.specs.Joined.{AreJoined}
 use Rattle.recovery_laws.specs.Queries.{QueriesJoined, CallsAreNamed}
+use Rattle.join_laws.specs.Hearing.{AreHeard}
 
 -- ---- books
 
@@ -82,14 +83,15 @@ pub record IsMade (w : World) (h : History) (n : ℕ) (node : Node) (sender : Op
   pub born : w.born + 1 < 2 ^ 64
   pub epochs : (q i : ℕ) → (standing_of w q i).made + 1 < 2 ^ 64
 
--- the machine goes on by moves of the node, and the world is joined again
-pub record Follows (w : World) (h : History) (n : ℕ) (before : machine.World) : Type 0 where
+-- the machine goes on by moves of the node, each of which takes what the step hears, and the world is joined again
+pub record Follows (ev : Event) (w : World) (h : History) (n : ℕ) (before : machine.World) : Type 0 where
   pub moves : List moves.Move
   pub own : AreOf n before moves
+  pub heard : AreHeard ev before moves
   pub joined : IsJoined w h (goes_on all_rules before moves)
 
 -- so it is of each such move, with any book of the end that it leads to
 abbrev pub Joins : Move → Type 0
 Joins m = (w : World) (h : History) (n : ℕ) (node : Node) (sender : Option Sender) (moment : ℕ) (ev : Event) (x : End) (d : Deed) (k : Kept)
     (j : machine.World) → IsMade w h n node sender moment ev m x d k j → (b : Kept) → Mirrors x b
-    → Follows (with_book (moves_on w n node m x) n b) (after h d) n j
+    → Follows ev (with_book (moves_on w n node m x) n b) (after h d) n j

@@ -1,4 +1,4 @@
-//! Each move of a step is a list of moves of the abstract machine.
+//! Each move of a step is a list of moves of the abstract machine, each of which takes what the step hears.
 #![tactic(auto)]
 
 ghost use Rattle.join_laws.specs.Moves.{CallMovesJoin, EndingMovesJoin, GivingMovesJoin};

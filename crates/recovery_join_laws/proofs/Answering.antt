@@ -147,13 +147,13 @@ module _ (codecs : Codecs) (again : WrittenIsRead) (room : WrittenHasRoom) (birt
     entered = entered;
   }
 
-  went : Went n j z
-  went = went_one n j z (moves.ResetsAnswering X c) (answers_node j X c ∙ told.node live.made) refl
+  went : Went ev n j z
+  went = went_one ev n j z (moves.ResetsAnswering X c) (answers_node j X c ∙ told.node live.made) refl tt
       (answers_is j X c (told.phase ∙ (answers_phase n t does.old does.answers does.waits ∙ ap (λ y. Answers (name n y)) does.local))
       confirmed)
 
-  pub answering_follows : Follows (with_book (moves_on w n node mv x) n b) (after h d) n j
-  answering_follows = led w v h n node mv x d b j z
+  pub answering_follows : Follows ev (with_book (moves_on w n node mv x) n b) (after h d) n j
+  answering_follows = led ev w v h n node mv x d b j z
       (channel.moves_is w h n node sender moment ev m x d q.moved) went
       (λ js goes. one_joined stay (with_book w n k) (with_book v n b) h (after h d) j z n i (booked node k)
       (booked renews.leads.after b) q.joined.joined

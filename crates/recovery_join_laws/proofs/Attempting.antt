@@ -145,16 +145,16 @@ module _ (codecs : Codecs) (again : WrittenIsRead) (room : WrittenHasRoom) (birt
     entered = entered;
   }
 
-  went : Went n j z
-  went = went_one n j z (moves.ResetsAttempting X c) (attempts_node j X c ∙ told.node live.made) refl
+  went : Went ev n j z
+  went = went_one ev n j z (moves.ResetsAttempting X c) (attempts_node j X c ∙ told.node live.made) refl tt
       (attempts_is j X c (name n does.old.local) (told.phase ∙ attempts_phase n t does.old does.attempts does.waits)
       (known.answered
       ∙ ap₂ name (channel.replied codecs again room w h n node sender moment ev m x d q.moved).goes
       (channel.replied codecs again room w h n node sender moment ev m x d q.moved).attempt_is)
       (subst (λ y. is_name y ≡ true) (sym known.given) (some_named other _ ok.linked.from_some)))
 
-  pub attempting_follows : Follows (with_book (moves_on w n node mv x) n b) (after h d) n j
-  attempting_follows = led w v h n node mv x d b j z
+  pub attempting_follows : Follows ev (with_book (moves_on w n node mv x) n b) (after h d) n j
+  attempting_follows = led ev w v h n node mv x d b j z
       (channel.moves_is codecs again room w h n node sender moment ev m x d q.moved) went
       (λ js goes. one_joined stay (with_book w n k) (with_book v n b) h (after h d) j z n i (booked node k)
       (booked renews.leads.after b) q.joined.joined

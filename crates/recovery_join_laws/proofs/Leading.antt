@@ -8,6 +8,7 @@ use Rattle.recovery_tunnel.specs.Connections.{ControlConnection, is_waiting}
 use Rattle.recovery_tunnel.specs.Answers.{Answering}
 use Rattle.session_book.specs.Books.{Kept}
 use Rattle.end_names.specs.Names.{node_of}
+use Rattle.end_model.specs.declared.event.Event.{Event}
 use Rattle.end_model.specs.declared.moves.Froze.{Froze}
 use Rattle.end_model.specs.declared.moves.Move.{Move}
 use Rattle.end_model.specs.Tunnels.{Tunnel, ByAttempt, ByAnswer}
@@ -59,15 +60,16 @@ entered_leads w n node there x i e = record {
         (same_or_not q n)
 
 -- the move is joined where the world that it leads to is
-pub led : (w v : World) (h : History) (n : ℕ) (node : Node) (m : Move) (x : End) (d : Deed) (b : Kept) (j z : machine.World)
-    → moves_on w n node m x ≡ v → (t : Went n j z)
+pub led : (ev : Event) (w v : World) (h : History) (n : ℕ) (node : Node) (m : Move) (x : End) (d : Deed) (b : Kept) (j z : machine.World)
+    → moves_on w n node m x ≡ v → (t : Went ev n j z)
     → ((js : List moves.Move) → z ≡ goes_on all_rules j js → AreJoined (with_book v n b) (after h d) z)
     → QueriesJoined (with_book v n b) (after h d) z → CallsAreNamed z
-    → Follows (with_book (moves_on w n node m x) n b) (after h d) n j
-led w v h n node m x d b j z same t joined queries named =
-    subst (λ y. Follows (with_book y n b) (after h d) n j) (sym same) (record {
+    → Follows ev (with_book (moves_on w n node m x) n b) (after h d) n j
+led ev w v h n node m x d b j z same t joined queries named =
+    subst (λ y. Follows ev (with_book y n b) (after h d) n j) (sym same) (record {
       moves = t.moves;
       own = t.own;
+      heard = t.heard;
       joined = subst (IsJoined (with_book v n b) (after h d)) t.goes
           (record { joined = joined t.moves t.goes; queries = queries; named = named });
     })

@@ -1,17 +1,22 @@
--- Lists of moves by which a tunnel of the machine asks, and takes questions and answers: they are of the tunnel's node, and none is an
--- outage.
-use Rattle.std.proofs.Common.{◌≡◌, ℕ, suc, ◌+◌, Bool, true, false, arith, List, [], ◌∷◌, refl, ap, ◌∙◌, Option, Some, None}
+-- Lists of moves by which a tunnel of the machine asks, and takes questions and answers: they are of the tunnel's node, none is an outage,
+-- and none takes a letter by which a tunnel or a call comes up.
+use Rattle.std.proofs.Common.{◌≡◌, ℕ, suc, ◌+◌, Bool, true, false, arith, List, [], ◌∷◌, map, refl, ap, ◌∙◌, Option, Some, None, ne_eqb}
 use Rattle.std.specs.Prelude.{slice_get, if◌then◌else◌, ◌==◌, ◌&&◌, not}
-use Rattle.epoch_machine.specs.Names.{is_new, is_name}
+use Rattle.std.specs.List.{AllByRecursion}
+use Rattle.end_model.specs.declared.event.Event.{Event}
+use Rattle.epoch_machine.specs.Names.{assign, is_new, is_name}
 use Rattle.epoch_machine.specs.Letters.{Letter, Sccrq, Sccrp, Scccn, StopCcn, Hello, Request, Reply, Connect, Cdn, Fsq, Fsr}
 use Rattle.epoch_machine.specs.Tunnels.{Tunnels, is_open, is_wait_reply, is_wait_connect, established_with, established, left}
+use Rattle.epoch_machine.specs.Channels.{puts, counts}
 use Rattle.epoch_machine.specs.Calls.{stands_with, waits_reply, waits_connect}
 use Rattle.epoch_machine.specs.Worlds.{World, all_rules, gives, took_one, leaves, connects, is_connected, takes, takes_open, answers_request, takes_reply, takes_connect, takes_cdn, answers_query, takes_answer}
 use Rattle.epoch_machine.specs.Moves.{Queries, Delivers, may_query, queries, may_take, delivers, step}
 use Rattle.stop_laws.specs.Records.{node_of}
-use Rattle.recovery_laws.specs.Asking.{Asked, asking, delivered, StandFrom}
+use Rattle.recovery_laws.specs.Asking.{Asked, asking, Told, delivered, StandFrom}
+use Rattle.join_laws.specs.Hearing.{stage, AreHeard}
 use Rattle.join_laws.specs.Steps.{AreOf}
 use Rattle.join_laws.proofs.CallMoves.{delivers_node}
+use Rattle.join_laws.proofs.Hearing.{heard_none}
 
 -- ---- asking
 
@@ -34,6 +39,10 @@ asking_own n w x (q ∷ qs) own = (
   refl,
   asking_own n (step all_rules w (Queries x q.own)) x qs (ap (λ (t : Tunnels). t.node x) (query_tunnels w x q.own) ∙ own),
 )
+
+pub asking_heard : (ev : Event) (w : World) (x : ℕ) (qs : List Asked) → AreHeard ev w (asking x qs)
+asking_heard ev w x [] = tt
+asking_heard ev w x (q ∷ qs) = (tt, asking_heard ev (step all_rules w (Queries x q.own)) x qs)
 
 -- ---- taking
 
@@ -112,4 +121,70 @@ stand_from w s e place [] each = tt
 stand_from w s e place (l ∷ ls) each = (
   ap (λ k. slice_get (w.channels.sent s e) k) (omega arith) ∙ each 0 l refl,
   stand_from w s e (suc place) ls (λ r y is. ap (λ k. slice_get (w.channels.sent s e) k) (omega arith) ∙ each (suc r) y is),
+)
+
+-- ---- what is heard
+
+-- a question or an answer
+abbrev pub IsOfSessions : Letter → Type 0
+IsOfSessions (Fsq own y) = Unit {0}
+IsOfSessions (Fsr own y here) = Unit {0}
+IsOfSessions l = ⊥
+
+pub all_questions : (qs : List Asked) → AllByRecursion IsOfSessions (map (λ (q : Asked). Fsq q.own q.other) qs)
+all_questions [] = tt
+all_questions (q ∷ qs) = (tt, all_questions qs)
+
+pub all_answers : (told : List Told) → AllByRecursion IsOfSessions (map (λ (a : Told). Fsr a.own a.call a.here) told)
+all_answers [] = tt
+all_answers (a ∷ told) = (tt, all_answers told)
+
+no_stage : (l : Letter) → IsOfSessions l → stage l ≡ 0
+no_stage (Fsq own y) is = refl
+no_stage (Fsr own y here) is = refl
+no_stage l is = absurd is
+
+-- a tunnel that takes one gives none but its own
+other_list : (sent : ℕ → ℕ → List Letter) (x s f : ℕ) (given : ℕ → List Letter) → (s ≡ x → ⊥) → assign sent x given s f ≡ sent s f
+other_list sent x s f given apart = ap (λ b. (if b then given else sent s) f) (ne_eqb s x apart)
+
+sent_of : (b : Bool) (u v w : World) (s f : ℕ) → u.channels.sent s f ≡ w.channels.sent s f → v.channels.sent s f ≡ w.channels.sent s f
+    → (if b then u else v).channels.sent s f ≡ w.channels.sent s f
+sent_of true u v w s f p q = p
+sent_of false u v w s f p q = q
+
+taken_sent : (w : World) (x s e k f : ℕ) (l : Letter) → IsOfSessions l → (s ≡ x → ⊥)
+    → (delivers all_rules w x s e k 0 (Some l)).channels.sent s f ≡ w.channels.sent s f
+unfolding delivers takes takes_open answers_query takes_answer gives puts took_one counts
+taken_sent w x s e k f (Fsq own y) is apart =
+    sent_of (may_take all_rules w x s e k (Fsq own y)) _ w w s f
+    (sent_of (is_open (w.tunnels.phase x)) _ (took_one w x) w s f (other_list w.channels.sent x s f _ apart) refl) refl
+taken_sent w x s e k f (Fsr own y here) is apart =
+    sent_of (may_take all_rules w x s e k (Fsr own y here)) _ w w s f
+    (sent_of (is_open (w.tunnels.phase x)) _ (took_one w x) w s f
+    (sent_of (not here && stands_with w.calls x y own) _ _ w s f refl refl) refl) refl
+taken_sent w x s e k f l is apart = absurd is
+
+step_sent : (w : World) (x s e k f : ℕ) (l : Letter) → IsOfSessions l → (s ≡ x → ⊥) → slice_get (w.channels.sent s e) k ≡ Some l
+    → (step all_rules w (Delivers x s e k 0)).channels.sent s f ≡ w.channels.sent s f
+unfolding step
+step_sent w x s e k f l is apart there =
+    ap (λ o. (delivers all_rules w x s e k 0 o).channels.sent s f) there ∙ taken_sent w x s e k f l is apart
+
+stand_on : (w u : World) (s e place : ℕ) (ls : List Letter) → u.channels.sent s e ≡ w.channels.sent s e → StandFrom w s e place ls
+    → StandFrom u s e place ls
+stand_on w u s e place [] same stand = tt
+stand_on w u s e place (l ∷ ls) same stand = (
+  ap (λ ms. slice_get ms place) same ∙ stand.0,
+  stand_on w u s e (suc place) ls same stand.1,
+)
+
+-- another tunnel's questions and answers, as they stand
+pub delivered_heard : (ev : Event) (w : World) (x s e place : ℕ) (ls : List Letter) → (s ≡ x → ⊥) → AllByRecursion IsOfSessions ls
+    → StandFrom w s e place ls → AreHeard ev w (delivered x s e place ls)
+delivered_heard ev w x s e place [] apart all stand = tt
+delivered_heard ev w x s e place (l ∷ ls) apart all stand = (
+  heard_none ev w x s e place 0 l stand.0 (no_stage l all.0),
+  delivered_heard ev (step all_rules w (Delivers x s e place 0)) x s e (suc place) ls apart all.1
+      (stand_on w (step all_rules w (Delivers x s e place 0)) s e (suc place) ls (step_sent w x s e place e l all.0 apart stand.0) stand.1),
 )

@@ -45,7 +45,7 @@ use Rattle.join_laws.proofs.Giving.{Gives, GivesIn, gave_peers, gives_talks}
 use Rattle.join_laws.proofs.Letters.{Talks, talks_one}
 use Rattle.join_laws.proofs.Made as made
 use Rattle.join_laws.proofs.OneTunnel.{one_joined}
-use Rattle.recovery_join_laws.proofs.Lists.{asking_own}
+use Rattle.recovery_join_laws.proofs.Lists.{asking_own, asking_heard}
 use Rattle.recovery_join_laws.proofs.Others.{end_leads, asks_apart}
 
 -- ---- the move
@@ -194,11 +194,11 @@ module _ (grow : ChannelsGrow) (are : QueriesAreMoves) (on : QueriesGoOn) (w : W
         (subst (λ y. QueryJoined z n m.tunnel y r) (sym (peers n m.tunnel)) still));
   }) q.joined.queries
 
-  went : Went n j z
-  went = record { moves = asking X qs; own = asking_own n j X qs own; goes = refl }
+  went : Went ev n j z
+  went = record { moves = asking X qs; own = asking_own n j X qs own; heard = asking_heard ev j X qs; goes = refl }
 
-  pub queried_follows : Follows (with_book (moves_on w n node mv x) n b) (after h d) n j
-  queried_follows = follows w h n node mv x d k b j z gives.same went
+  pub queried_follows : Follows ev (with_book (moves_on w n node mv x) n b) (after h d) n j
+  queried_follows = follows ev w h n node mv x d k b j z gives.same went
       (λ js goes. one_joined grow.stay (with_book w n k) (behind w n node x b) h (after h d) j z n m.tunnel (booked node k)
       (left node x b) q.joined.joined
       (talks_one grow.stay w h (after h d) n node x k b j z m.tunnel e t r (l ∷ []) (asks_in n peer m.pairs) 0 talks q.joined.joined) js

@@ -58,7 +58,7 @@ use Rattle.join_laws.proofs.OneCall.{gone_session, alone_in}
 use Rattle.join_laws.proofs.OneTunnel.{CallStays, one_joined}
 use Rattle.join_laws.proofs.Taking as taking
 use Rattle.join_laws.proofs.Taking.{Takes, TakesIn, TookLetter}
-use Rattle.recovery_join_laws.proofs.Lists.{delivered_own}
+use Rattle.recovery_join_laws.proofs.Lists.{delivered_own, all_answers, delivered_heard}
 use Rattle.recovery_join_laws.proofs.Others.{end_leads, asks_apart}
 use Rattle.recovery_join_laws.proofs.Sessions as sessions
 use Rattle.recovery_join_laws.proofs.Sessions.{calls_hold}
@@ -349,11 +349,16 @@ module _ (grow : ChannelsGrow) (are : QueriesAreMoves) (on : QueriesGoOn) (birth
         (subst (λ y. QueryJoined z n m.tunnel y r) (sym (peers n m.tunnel)) still));
   }) q.joined.queries
 
-  went : Went n j z
-  went = record { moves = delivered X S e place heard; own = delivered_own n j X S e place heard (here.node live.made); goes = refl }
+  went : Went ev n j z
+  went = record {
+    moves = delivered X S e place heard;
+    own = delivered_own n j X S e place heard (here.node live.made);
+    heard = delivered_heard ev j X S e place heard from.apart (all_answers told) stand;
+    goes = refl;
+  }
 
-  pub took_answer_follows : Follows (with_book (moves_on w n node mv x) n b) (after h d) n j
-  took_answer_follows = follows w h n node mv x d k b j z same went
+  pub took_answer_follows : Follows ev (with_book (moves_on w n node mv x) n b) (after h d) n j
+  took_answer_follows = follows ev w h n node mv x d k b j z same went
       (λ js goes. one_joined grow.stay (with_book w n k) (behind w n node x b) h (after h d) j z n m.tunnel (booked node k)
       (left node x b) q.joined.joined
       (talks_one grow.stay w h (after h d) n node x k b j z m.tunnel e t r [] [] (length told) talks q.joined.joined) js goes)

@@ -47,7 +47,7 @@ use Rattle.join_laws.proofs.Taking as taking
 use Rattle.join_laws.proofs.Taking.{Takes, TakesIn, TookLetter}
 use Rattle.join_laws.proofs.Talking.{talks_follow}
 use Rattle.join_laws.proofs.Within.{partner_by}
-use Rattle.recovery_join_laws.proofs.Lists.{delivered_own}
+use Rattle.recovery_join_laws.proofs.Lists.{delivered_own, all_questions, delivered_heard}
 use Rattle.recovery_join_laws.proofs.Sessions as sessions
 use Rattle.recovery_join_laws.proofs.Sessions.{calls_hold}
 use Rattle.recovery_join_laws.proofs.Standing as standing
@@ -215,7 +215,7 @@ module _ (grow : ChannelsGrow) (are : QueriesAreMoves) (births : BirthsOfRuns) (
     births = (ap (λ (c : Calls). c.births) calls, λ y. ap (λ (c : Calls). c.birth y) calls);
   }
 
-  pub answered_follows : Follows (with_book (moves_on w n node mv x) n b) (after h d) n j
+  pub answered_follows : Follows ev (with_book (moves_on w n node mv x) n b) (after h d) n j
   answered_follows =
       talks_follow grow w h n node sender moment ev mv x d k b j z q t r (l ∷ []) says (length qs)
       (taking.takes_talks w h n node sender moment ev mv x d k j q t m.taken.number (l ∷ []) takes_it took no_stop grow b z r says
@@ -227,7 +227,12 @@ module _ (grow : ChannelsGrow) (are : QueriesAreMoves) (births : BirthsOfRuns) (
         asks = λ y s. ap (λ (f : Calls). f.asks y s) calls;
         held = λ y f s. ap (λ (p : Calls). p.held y f s) calls;
         named = named_as j z (ap (λ (f : Calls). f.drawn) calls) q.joined.named;
-        went = record { moves = delivered X S e place asks; own = delivered_own n j X S e place asks (told.node live.made); goes = refl };
+        went = record {
+          moves = delivered X S e place asks;
+          own = delivered_own n j X S e place asks (told.node live.made);
+          heard = delivered_heard ev j X S e place asks from.apart (all_questions qs) stand;
+          goes = refl;
+        };
       })
 
 pub answered_joins : ChannelsGrow → QueriesAreMoves → BirthsOfRuns → (m : AnsweredQuery) → Joins (move.AnsweredQuery m)
