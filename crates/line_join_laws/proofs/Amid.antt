@@ -22,14 +22,16 @@ use Rattle.channel_laws.specs.Facts.{Holds}
 use Rattle.channel_laws.specs.Steps.{with_end, moves_on, IsMoved}
 use Rattle.recovery_laws.specs.Answered.{AllAnswer, AnswersAreToQuestions}
 use Rattle.join_laws.specs.Steps.{with_book, AllClose, ChannelsClose, IsJoined, IsMade, AreOf, Follows}
+use Rattle.join_laws.specs.Hearing.{AreHeard}
+use Rattle.join_laws.specs.Roles.{RequestsAreOfLacs, RequestsStay}
 use Rattle.join_laws.proofs.Ahead.{end_standings}
-use Rattle.line_join_laws.specs.Cuts.{AllOf, FollowsBy, JoinsBy}
+use Rattle.line_join_laws.specs.Chains.{MovesJoin}
 use Rattle.line_join_laws.proofs.Counting.{CountsOn, counts_on}
-use Rattle.line_join_laws.proofs.Lists.{goes_both, of_both, all_both}
+use Rattle.line_join_laws.proofs.Lists.{goes_both, of_both, heard_both}
 use Rattle.line_join_laws.proofs.Nodes.{IsThere, left_there, left_others, like_holds}
 use Rattle.line_join_laws.proofs.Spaces.{mirrors_then, fits_then}
 
-module _ (P : machine.World → moves.Move → Type 0) (n top : ℕ) (j0 : machine.World) where
+module _ (ev : Event) (n top : ℕ) (j0 : machine.World) where
   -- a world amid a step of a node, which goes on from a world of the machine's
   pub record Amid (w : World) (h : History) : Type 0 where
     pub node : Node
@@ -40,16 +42,18 @@ module _ (P : machine.World → moves.Move → Type 0) (n top : ℕ) (j0 : machi
     pub nodes : (q : ℕ) (other : Node) → (q ≡ n → ⊥) → at w.nodes q ≡ Some other → HoldsNode other
     pub answers : AllAnswer h
     pub closes : AllClose h
+    pub roles : RequestsAreOfLacs w h
     pub born : w.born ≤ top + node.end.session_ids.next
     pub made : (q i : ℕ) → (standing_of w q i).made ≤ top + node.end.tunnel_ids.next
     pub book : Kept
     pub mirrors : Mirrors node.end book
     pub moves : List moves.Move
     pub own : AreOf n j0 moves
-    pub all : AllOf P j0 moves
+    pub heard : AreHeard ev j0 moves
     pub joined : IsJoined (with_book w n book) h (goes_on all_rules j0 moves)
 
-  module _ (ev : Event) (join : JoinsBy P ev) (answers : AnswersAreToQuestions) (closes : ChannelsClose) (room : top + 131072 < 2 ^ 64)
+  module _ (join : MovesJoin) (answers : AnswersAreToQuestions) (closes : ChannelsClose)
+      (requests : RequestsStay) (room : top + 131072 < 2 ^ 64)
       (w : World) (h : History) (a : Amid w h) (old : Node) (sender : Option Sender) (moment : ℕ) (m : Move) (x : End) (d : Deed)
       (start : IsOfNoStart m) (is : IsMoved w h n old sender moment ev m x d) (later : Holds (moves_on w n old m x) (after h d)) where
     same : a.node ≡ old
@@ -104,11 +108,8 @@ module _ (P : machine.World → moves.Move → Type 0) (n top : ℕ) (j0 : machi
       epochs = λ q i. (let le = a.made q i in let few = tunnels in omega (arith, le, few, room));
     }
 
-    follows_by : FollowsBy P (with_book v n next.0) (after h d) n (goes_on all_rules j0 a.moves)
-    follows_by = join m start w h n old sender moment x d a.book (goes_on all_rules j0 a.moves) made next.0 next.1
-
-    abbrev follows : Follows (with_book v n next.0) (after h d) n (goes_on all_rules j0 a.moves)
-    follows = follows_by.follows
+    follows : Follows ev (with_book v n next.0) (after h d) n (goes_on all_rules j0 a.moves)
+    follows = join m start w h n old sender moment ev x d a.book (goes_on all_rules j0 a.moves) a.roles made next.0 next.1
 
     left : IsThere v n x old.up old.checkpoint
     left = left_there w n old is.there m x
@@ -137,6 +138,7 @@ module _ (P : machine.World → moves.Move → Type 0) (n top : ℕ) (j0 : machi
           (let k = left_others w n old is.there m x q other o there in like_holds k.old other k.like (a.nodes q k.old o k.was));
       answers = answers.later (d ∷ []) h a.answers;
       closes = closes.later (d ∷ []) h a.closes;
+      roles = requests.moves w h n old sender moment ev m x d is a.roles;
       born =
           (let le = a.born in
           let own = ap (λ (y : Node). y.end.session_ids.next) same in
@@ -151,6 +153,6 @@ module _ (P : machine.World → moves.Move → Type 0) (n top : ℕ) (j0 : machi
       mirrors = subst (λ e. Mirrors e next.0) (sym left.end) next.1;
       moves = a.moves ++ follows.moves;
       own = of_both n j0 a.moves follows.moves a.own follows.own;
-      all = all_both P j0 a.moves follows.moves a.all follows_by.all;
+      heard = heard_both ev j0 a.moves follows.moves a.heard follows.heard;
       joined = subst (IsJoined (with_book v n next.0) (after h d)) (sym (goes_both j0 a.moves follows.moves)) follows.joined;
     }

@@ -42,8 +42,8 @@ use Rattle.recovery_laws.specs.Joined.{is_made, is_used, phase_by, phase_in, Att
 use Rattle.line_join_laws.proofs.Counting.{not_less}
 use Rattle.line_join_laws.proofs.Lists.{goes_both}
 use Rattle.line_join_laws.proofs.Nodes.{IsThere, left_there}
-use Rattle.line_join_laws.proofs.Restored.{Stays, restores_it, restores_stay, phase_back, phase_stays, drawn_then, drawn_stays, attempts_then}
-use Rattle.line_join_laws.proofs.Restored.{attempts_stay, state_back, state_stays, state_free}
+use Rattle.line_join_laws.proofs.Restored.{Stays, restores_it, restores_stay, phase_back, phase_stays, drawn_then, drawn_stays}
+use Rattle.line_join_laws.proofs.Restored.{attempts_then, attempts_stay, state_back, state_stays, state_free}
 
 -- ---- what is known of attempts after a move
 

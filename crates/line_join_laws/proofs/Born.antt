@@ -74,7 +74,7 @@ answer_born w n c e = by (at w.nodes n) refl
     by None none = born_same w
     by (Some node) there = put_born w n node (record node { answers = put node.answers c e }) there refl
 
-makes_born : (w : World) (n i m j c : ℕ) → AreBorn w (makes_epoch w n i m j c)
+pub makes_born : (w : World) (n i m j c : ℕ) → AreBorn w (makes_epoch w n i m j c)
 unfolding makes_epoch
 makes_born w n i m j c =
     let e = min ((standing_of w n i).made + 1) (2 ^ 64 - 1) in
@@ -83,7 +83,7 @@ makes_born w n i m j c =
     born_on w v _ (standing_born w n i (record (standing_of w n i) { made = e }))
     (born_on v u _ (standing_born v m j (record (standing_of v m j) { made = e })) (answer_born u n c e))
 
-enters_born : (w : World) (n i e : ℕ) → AreBorn w (enters_epoch w n i e)
+pub enters_born : (w : World) (n i e : ℕ) → AreBorn w (enters_epoch w n i e)
 unfolding enters_epoch
 enters_born w n i e = standing_born w n i (record (standing_of w n i) { epoch = e; lost = None })
 
@@ -91,16 +91,16 @@ enters_born w n i e = standing_born w n i (record (standing_of w n i) { epoch = 
 
 module _ (n s b : ℕ) where
   module _ (w : World) (node : Node) (was : at w.nodes n ≡ Some node) where
-    abbrev put_in : World
+    abbrev pub put_in : World
     put_in = with_node w n (record node { births = put node.births s b })
 
-    own_birth : birth_of put_in n s ≡ b
+    pub own_birth : birth_of put_in n s ≡ b
     unfolding birth_of
     own_birth =
         ap (λ o. birth_in o s) (at_new w.nodes n (record node { births = put node.births s b }))
         ∙ ap (λ o. unwrap_or o 0) (at_new node.births s b)
 
-    other_birth : (q r : ℕ) → ((q ≡ n) × (r ≡ s) → ⊥) → birth_of put_in q r ≡ birth_of w q r
+    pub other_birth : (q r : ℕ) → ((q ≡ n) × (r ≡ s) → ⊥) → birth_of put_in q r ≡ birth_of w q r
     unfolding birth_of
     other_birth q r apart = ⊎_elim
         (λ (e : q ≡ n).
@@ -114,7 +114,7 @@ module _ (n s b : ℕ) where
     put_there : (q : ℕ) → is_some (at put_in.nodes q) ≡ is_some (at w.nodes q)
     put_there q = by_node w n node (record node { births = put node.births s b }) was (λ o. is_some o) refl q
 
-  either : (q r : ℕ) → ((q ≡ n) × (r ≡ s)) ⊎ ((q ≡ n) × (r ≡ s) → ⊥)
+  pub either : (q r : ℕ) → ((q ≡ n) × (r ≡ s)) ⊎ ((q ≡ n) × (r ≡ s) → ⊥)
   either q r = ⊎_elim
       (λ (e : q ≡ n). ⊎_elim (λ (f : r ≡ s). inl (e, f)) (λ o. inr (λ (p : (q ≡ n) × (r ≡ s)). o p.1)) (same_or_not r s))
       (λ o. inr (λ (p : (q ≡ n) × (r ≡ s)). o p.0))

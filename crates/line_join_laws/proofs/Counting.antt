@@ -64,7 +64,7 @@ answer_born w n c e (Some node) = refl
 -- ---- epochs
 
 -- a birth makes no epoch
-birth_standing : (w : World) (n s b q j : ℕ) → standing_of (with_birth w n s b) q j ≡ standing_of w q j
+pub birth_standing : (w : World) (n s b q j : ℕ) → standing_of (with_birth w n s b) q j ≡ standing_of w q j
 unfolding with_birth
 birth_standing w n s b q j = by (at w.nodes n) refl
   where
@@ -74,7 +74,7 @@ birth_standing w n s b q j = by (at w.nodes n) refl
         put_standing w n node (record node { births = put node.births s b }) there q j
         (⊎_elim (λ (same : q ≡ n). inr (same, refl)) (λ (o : q ≡ n → ⊥). inl o) (same_or_not q n))
 
-born_standing : (w : World) (b q j : ℕ) → standing_of (record w { born = b }) q j ≡ standing_of w q j
+pub born_standing : (w : World) (b q j : ℕ) → standing_of (record w { born = b }) q j ≡ standing_of w q j
 unfolding standing_of
 born_standing w b q j = refl
 
@@ -126,7 +126,7 @@ standing_made w n i s q j same = by (at w.nodes n) refl
             (put_standing w n node new there q j
             (inr (p, ap (λ (o : Option Standing). unwrap_or o no_standing) (at_other node.standings i s j apart))))
 
-enters_made : (w : World) (n i e q j : ℕ) → (standing_of (enters_epoch w n i e) q j).made ≡ (standing_of w q j).made
+pub enters_made : (w : World) (n i e q j : ℕ) → (standing_of (enters_epoch w n i e) q j).made ≡ (standing_of w q j).made
 unfolding enters_epoch
 enters_made w n i e q j = standing_made w n i (record (standing_of w n i) { epoch = e; lost = None }) q j refl
 

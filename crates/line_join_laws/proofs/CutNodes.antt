@@ -1,8 +1,7 @@
 -- What a stop leaves of a node is a node that fell, over the book that its records make.
-use Rattle.std.proofs.Common.{◌≡◌, ℕ, ◌+◌, ◌≤◌, List, refl, sym, ap, ◌∙◌, subst, Option, Some, arith}
+use Rattle.std.proofs.Common.{◌≡◌, ℕ, ◌≤◌, List, refl, ap, ◌∙◌, arith}
 use Rattle.std.specs.Prelude.{unwrap_or}
 use Rattle.id_table.specs.Ids.{at, ids_of}
-use Rattle.end_model.specs.End.{End}
 use Rattle.world_model.specs.declared.standing.Standing.{Standing}
 use Rattle.world_model.specs.World.{Node, Checkpoint, no_standing, fallen}
 use Rattle.node_laws.specs.Nodes.{HoldsUp}

@@ -20,9 +20,11 @@ use Rattle.end_model.specs.Contents.{contents_of}
 use Rattle.recovery_laws.proofs.Nodes.{no_cut}
 use Rattle.recovery_laws.specs.Standing.{Stands, Rests, RestingLinesKeep}
 use Rattle.join_laws.specs.Steps.{ChannelsClose}
+use Rattle.join_laws.specs.Roles.{RequestsStay}
 use Rattle.line_join_laws.specs.Chains.{MovesJoin, EndsSound, CountsWithin, NoneIsArmed, IsStanding}
 use Rattle.line_join_laws.specs.Lines.{CutStepsJoin, StartsJoin, JoinedLinesKeep}
 use Rattle.line_join_laws.proofs.Chain.{joined_lines_know}
+use Rattle.line_join_laws.proofs.Roles.{rested_roles}
 use Rattle.line_join_laws.proofs.Stepped.{joined_steps_keep}
 
 -- ---- counts in a line in which no node makes a step
@@ -83,16 +85,16 @@ module _ (w : World) (top : ℕ) (c : CountsWithin w top) where
 
 -- ---- lines
 
-module _ (once : AnswersOfRuns) (answers : AnswersAreToQuestions) (closes : ChannelsClose) (steps : WholeStepsKeep) (lines : LinesKeep)
-    (resting : RestingLinesKeep) (starts : StartsJoin) (join : MovesJoin) (cuts : CutStepsJoin) (w : World) (h : History) (number : ℕ)
-    (x : Lined)
-    (top most : ℕ) (s : IsStanding w h top) (room : top + 131072 < 2 ^ 64) (below : Below h most) (few : most + 147460 < 2 ^ 64)
+module _ (once : AnswersOfRuns) (answers : AnswersAreToQuestions) (closes : ChannelsClose) (requests : RequestsStay)
+    (steps : WholeStepsKeep) (lines : LinesKeep) (resting : RestingLinesKeep) (starts : StartsJoin) (join : MovesJoin) (cuts : CutStepsJoin)
+    (w : World) (h : History) (number : ℕ) (x : Lined) (top most : ℕ) (s : IsStanding w h top) (room : top + 131072 < 2 ^ 64)
+    (below : Below h most) (few : most + 147460 < 2 ^ 64)
     (does : LineDoes w number x) (unarmed : NoneIsArmed w) (nodes : NodesHold x.world) (sound : EndsSound x.world) where
   abbrev g : History
   g = history_from x.done h
 
   kept : Holds x.world g × Below g (most + 81919)
-  kept = lines w h number x most s.nodes s.holds below few does (joined_lines_know once answers closes join w h top s room)
+  kept = lines w h number x most s.nodes s.holds below few does (joined_lines_know once answers closes requests join w h top s room)
 
   rested : (d : LineDoes w number x) → Rests d → CountsWithin x.world (top + 65536) → IsStanding x.world g (top + 65536)
   rested d rests counts =
@@ -113,6 +115,7 @@ module _ (once : AnswersOfRuns) (answers : AnswersAreToQuestions) (closes : Chan
         joined = record { joined = k.joined; queries = k.queries; named = k.named };
         answers = answers.later x.done h s.answers;
         closes = closes.later x.done h s.closes;
+        roles = rested_roles requests w h number x s.holds s.roles d rests;
         counts = counts;
       }
 
@@ -127,7 +130,7 @@ module _ (once : AnswersOfRuns) (answers : AnswersAreToQuestions) (closes : Chan
   stands_by (Falls k world done none) =
       rested (Falls k world done none) tt
       (subst (λ v. CountsWithin v (top + 65536)) (sym world) (fallen_counts w top s.counts h s.holds s.nodes number k))
-  stands_by (Steps k) = joined_steps_keep once answers closes steps join w h number x k top most s room below few nodes sound
+  stands_by (Steps k) = joined_steps_keep once answers closes requests steps join w h number x k top most s room below few nodes sound
   stands_by (Cuts k) = ⊎_elim
       (λ up. cuts w h number x k top most up.0 s room below few nodes sound kept.0)
       (λ start.
@@ -139,7 +142,9 @@ module _ (once : AnswersOfRuns) (answers : AnswersAreToQuestions) (closes : Chan
   pub line_stands : IsStanding x.world (history_from x.done h) (top + 65536) × Below (history_from x.done h) (most + 81919)
   line_stands = (stands_by does, kept.1)
 
-pub joined_lines_keep : AnswersOfRuns → AnswersAreToQuestions → ChannelsClose → WholeStepsKeep → LinesKeep → RestingLinesKeep → StartsJoin
-    → JoinedLinesKeep
-joined_lines_keep once answers closes steps lines resting starts join cuts w h number x top most s room below few does unarmed nodes sound =
-    line_stands once answers closes steps lines resting starts join cuts w h number x top most s room below few does unarmed nodes sound
+pub joined_lines_keep : AnswersOfRuns → AnswersAreToQuestions → ChannelsClose → RequestsStay → WholeStepsKeep
+    → LinesKeep → RestingLinesKeep → StartsJoin → MovesJoin → JoinedLinesKeep
+joined_lines_keep once answers closes requests steps lines resting starts join cuts w h number x top most s room below few does unarmed
+    nodes sound =
+    line_stands once answers closes requests steps lines resting starts join cuts w h number x top most s room below few does unarmed nodes
+    sound

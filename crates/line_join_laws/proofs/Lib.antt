@@ -5,8 +5,10 @@ pub mod Lists
 pub mod Another
 pub mod Rebooked
 pub mod Born
+pub mod EachMove
 pub mod Amid
 pub mod Chain
+pub mod Roles
 pub mod Stepped
 pub mod EachLine
 pub mod Runs

@@ -1,4 +1,4 @@
--- The world of each run is joined.
+-- The world of each run is joined; and what else each line keeps holds of it.
 use Rattle.std.proofs.Common.{◌≡◌, ℕ, ◌+◌, ◌*◌, ◌^◌, ◌<◌, ◌≤◌, List, [], ◌∷◌, ◌++◌, length, refl, sym, ap, ◌∙◌, subst, Option, arith}
 use Rattle.std.specs.Prelude.{Ok}
 use Rattle.std.proofs.lemmas.Option.{none-some}
@@ -6,7 +6,7 @@ use Rattle.id_table.specs.Ids.{at-none}
 use Rattle.schedule_text.specs.declared.line.Line.{Line}
 use Rattle.schedule_text.specs.Grammar.{AreLines, FitsLine}
 use Rattle.world_model.specs.declared.refusal.Refusal.{Refusal}
-use Rattle.world_model.specs.World.{Deed, Lined, standing_in, standing_of, empty_world, line}
+use Rattle.world_model.specs.World.{World, Deed, Lined, standing_in, standing_of, empty_world, line}
 use Rattle.world_model.specs.Run.{Run, empty_run, after_line, run_from, run}
 use Rattle.step_laws.specs.Left.{AreSound, CallsStaySound}
 use Rattle.step_laws.specs.Looks.{LooksStayTrue, LooksBeginTrue}
@@ -24,9 +24,10 @@ use Rattle.recovery_laws.specs.Answered.{AnswersAreToQuestions}
 use Rattle.recovery_laws.specs.Standing.{StandsFirst}
 use Rattle.recovery_laws.proofs.Nodes.{line_unarmed}
 use Rattle.join_laws.specs.Steps.{ChannelsClose}
-use Rattle.line_join_laws.specs.Chains.{MovesJoin, NoneIsArmed, IsStanding}
+use Rattle.join_laws.specs.Roles.{RequestsStay}
+use Rattle.line_join_laws.specs.Chains.{NoneIsArmed, IsStanding}
 use Rattle.line_join_laws.specs.Lines.{CutStepsJoin, JoinedLinesKeep}
-use Rattle.line_join_laws.specs.Runs.{JoinedRunsStand}
+use Rattle.line_join_laws.specs.Runs.{JoinedRunsStand, JoinedRunsStayBelow, IsCarried}
 
 -- ---- calls are sound
 
@@ -66,10 +67,11 @@ pub record RunLaws : Type 0 where
   pub lines : LinesDo
   pub answers : AnswersAreToQuestions
   pub closes : ChannelsClose
+  pub requests : RequestsStay
   pub first : StandsFirst
   pub keep : JoinedLinesKeep
 
-module _ (laws : RunLaws) (join : MovesJoin) (cuts : CutStepsJoin) where
+module _ (laws : RunLaws) (cuts : CutStepsJoin) (P : World → History → Type 0) (carried : IsCarried P) where
   so : StaysSo AreSound
   so = sound_so laws.sound laws.allowed
 
@@ -79,6 +81,7 @@ module _ (laws : RunLaws) (join : MovesJoin) (cuts : CutStepsJoin) where
     stands : IsStanding r.world (history_of r.done) (65536 * count)
     below : Below (history_of r.done) (81919 * count)
     unarmed : NoneIsArmed r.world
+    carries : P r.world (history_of r.done)
 
   first : RunOk 0 empty_run
   unfolding standing_of
@@ -92,10 +95,12 @@ module _ (laws : RunLaws) (join : MovesJoin) (cuts : CutStepsJoin) where
       joined = record { joined = laws.first.joined; queries = laws.first.queries; named = laws.first.named };
       answers = laws.answers.first;
       closes = laws.closes.first;
+      roles = laws.requests.first;
       counts = record { born = omega arith; made = none_made };
     });
     below = first_below;
     unarmed = λ n node there. absurd (none-some node (sym (at-none n) ∙ there));
+    carries = subst (P empty_world) (sym first_done) carried.first;
   }
     where
       none_made : (n i : ℕ) → (standing_of empty_world n i).made ≤ 65536 * 0
@@ -110,8 +115,9 @@ module _ (laws : RunLaws) (join : MovesJoin) (cuts : CutStepsJoin) where
     next =
         let nodes =
         line_holds AreSound so laws.chains laws.looks laws.begin laws.booked laws.starting laws.new r.world number ok.nodes x l is in
-        let on = laws.keep join cuts r.world (history_of r.done) number x (65536 * count) (81919 * count) ok.stands
-        (omega (arith, few)) ok.below (omega (arith, few)) (laws.lines r.world number l x fits is) ok.unarmed
+        let does = laws.lines r.world number l x fits is in
+        let on = laws.keep cuts r.world (history_of r.done) number x (65536 * count) (81919 * count) ok.stands
+        (omega (arith, few)) ok.below (omega (arith, few)) does ok.unarmed
         (λ n node there. (nodes n node there).0) (λ n node there. (nodes n node there).1) in
         let same = sym (more_done r.done x.done no_history) in
         let top : 65536 * count + 65536 ≡ 65536 * (count + 1) = omega arith in
@@ -121,6 +127,9 @@ module _ (laws : RunLaws) (join : MovesJoin) (cuts : CutStepsJoin) where
           stands = subst (λ h. IsStanding x.world h (65536 * (count + 1))) same (subst (λ k. IsStanding x.world g k) top on.0);
           below = subst (λ h. Below h (81919 * (count + 1))) same (subst (λ k. Below g k) most on.1);
           unarmed = line_unarmed laws.lines r.world number l x fits is ok.unarmed;
+          carries = subst (P x.world) same
+              (carried.lines r.world (history_of r.done) number x (65536 * count) (81919 * count) ok.stands (omega (arith, few)) ok.below
+              (omega (arith, few)) does on.0 ok.carries);
         }
 
   -- as many lines, or more
@@ -135,6 +144,7 @@ module _ (laws : RunLaws) (join : MovesJoin) (cuts : CutStepsJoin) where
       joined = ok.stands.joined;
       answers = ok.stands.answers;
       closes = ok.stands.closes;
+      roles = ok.stands.roles;
       counts = record {
         born = (let b = ok.stands.counts.born in omega (arith, b, le));
         made = λ n i. (let b = ok.stands.counts.made n i in omega (arith, b, le));
@@ -142,6 +152,7 @@ module _ (laws : RunLaws) (join : MovesJoin) (cuts : CutStepsJoin) where
     };
     below = λ n i e. (let b = ok.below n i e in omega (arith, b, le));
     unarmed = ok.unarmed;
+    carries = ok.carries;
   }
 
   all_lines : (number count : ℕ) (ls : List Line) (r : Run) → AreLines ls → count + length ls < 2 ^ 47 → RunOk count r
@@ -158,12 +169,31 @@ module _ (laws : RunLaws) (join : MovesJoin) (cuts : CutStepsJoin) where
     where
       as_fault : (fault : Option (ℕ × Refusal)) → RunOk (count + length (l ∷ ls)) r
           → RunOk (count + length (l ∷ ls)) (record r { fault = fault })
-      as_fault fault q = record { nodes = q.nodes; stands = q.stands; below = q.below; unarmed = q.unarmed }
+      as_fault fault q =
+          record { nodes = q.nodes; stands = q.stands; below = q.below; unarmed = q.unarmed; carries = q.carries }
 
-  pub runs_stand : (lines : List Line) → AreLines lines → length lines < 2 ^ 47
-      → IsStanding (run lines).world (history_of (run lines).done) (65536 * length lines)
-  runs_stand lines fits few =
-      (subst (λ k. RunOk k (run lines)) (omega arith) (all_lines 1 0 lines empty_run fits (omega (arith, few)) first)).stands
+  module _ (lines : List Line) (fits : AreLines lines) (few : length lines < 2 ^ 47) where
+    all_ok : RunOk (length lines) (run lines)
+    all_ok = subst (λ k. RunOk k (run lines)) (omega arith) (all_lines 1 0 lines empty_run fits (omega (arith, few)) first)
+
+    pub runs_stand : IsStanding (run lines).world (history_of (run lines).done) (65536 * length lines)
+    runs_stand = all_ok.stands
+
+    pub runs_below : Below (history_of (run lines).done) (81919 * length lines)
+    runs_below = all_ok.below
+
+    pub runs_carry : P (run lines).world (history_of (run lines).done)
+    runs_carry = all_ok.carries
+
+-- where nothing else is
+abbrev Nothing : World → History → Type 0
+Nothing w h = Unit {0}
+
+nothing_carried : IsCarried Nothing
+nothing_carried = record { first = tt; lines = λ w h number x top most s room below few does next p. tt }
 
 pub joined_runs_stand : RunLaws → JoinedRunsStand
-joined_runs_stand laws join cuts lines fits few = runs_stand laws join cuts lines fits few
+joined_runs_stand laws cuts lines fits few = runs_stand laws cuts Nothing nothing_carried lines fits few
+
+pub joined_runs_stay_below : RunLaws → JoinedRunsStayBelow
+joined_runs_stay_below laws cuts lines fits few = runs_below laws cuts Nothing nothing_carried lines fits few

@@ -50,15 +50,18 @@ use Rattle.world_model.specs.declared.standing.Standing.{Standing}
 use Rattle.world_model.specs.World.{birth_in, birth_of, standing_in, standing_of, answer_in}
 use Rattle.recovery_laws.specs.Answered.{AnswersAreToQuestions}
 use Rattle.join_laws.specs.Steps.{ChannelsClose}
+use Rattle.join_laws.specs.Roles.{RequestsStay}
 use Rattle.line_join_laws.specs.Chains.{EndsSound, IsStanding}
 use Rattle.line_join_laws.specs.Lines.{StartsJoin}
 use Rattle.line_join_laws.proofs.Another.{SameJoin, same_join, AreSame as SameWorlds, same_joined}
 use Rattle.line_join_laws.proofs.Back.{AmidBack, IsKept, AreKeptIn, all_back}
 use Rattle.line_join_laws.proofs.Begun.{risen, ready, first_back, SameRoots, roots_stay}
+use Rattle.line_join_laws.proofs.Born.{put_born}
 use Rattle.line_join_laws.proofs.Cleared.{clears}
 use Rattle.line_join_laws.proofs.Lost.{lost}
 use Rattle.line_join_laws.proofs.Returned.{returned_joined}
 use Rattle.line_join_laws.proofs.Nodes.{left_there}
+use Rattle.line_join_laws.proofs.Roles.{KeepsRoles, put_keeps, kept_roles}
 
 -- ---- outputs leave the nodes as they are
 
@@ -290,8 +293,15 @@ module _ (laws : StartsAreBooked) (of_books : StartsAreOfBooks) (keep : StartsKe
     born = behind_is.1;
   }
 
-  pub started_stands : AnswersAreToQuestions → ChannelsClose → IsStanding x.world g (top + 65536)
-  started_stands answers closes = record {
+  pub started_keeps : KeepsRoles w x.world
+  started_keeps = subst (λ l. KeepsRoles w (record w { nodes = l })) (sym behind_is.0)
+      (put_keeps w n s.old left s.was (sym booked.role))
+
+  pub started_births : (p r : ℕ) → birth_of x.world p r ≡ birth_of w p r
+  started_births p r = same.births p r ∙ (put_born w n s.old left s.was refl).births p r
+
+  pub started_stands : AnswersAreToQuestions → ChannelsClose → RequestsStay → IsStanding x.world g (top + 65536)
+  started_stands answers closes requests = record {
     nodes = nodes;
     sound = sound;
     holds = kept.holds;
@@ -303,6 +313,7 @@ module _ (laws : StartsAreBooked) (of_books : StartsAreOfBooks) (keep : StartsKe
     });
     answers = answers.later x.done h stands.answers;
     closes = closes.later x.done h stands.closes;
+    roles = kept_roles requests w x.world h g started_keeps kept.accounts stands.roles;
     counts = record {
       born = (let le = stands.counts.born in let is = behind_is.1 in omega (arith, le, is));
       made = λ p i.
@@ -313,6 +324,6 @@ module _ (laws : StartsAreBooked) (of_books : StartsAreOfBooks) (keep : StartsKe
     };
   }
 
-pub starts_join : StartsAreBooked → StartsAreOfBooks → StartsKeep → AnswersAreToQuestions → ChannelsClose → StartsJoin
-starts_join booked of_books keep answers closes w h number x s top most stands room below few nodes sound holds =
-    started_stands booked of_books keep w h number x s top most stands below few nodes sound answers closes
+pub starts_join : StartsAreBooked → StartsAreOfBooks → StartsKeep → AnswersAreToQuestions → ChannelsClose → RequestsStay → StartsJoin
+starts_join booked of_books keep answers closes requests w h number x s top most stands room below few nodes sound holds =
+    started_stands booked of_books keep w h number x s top most stands below few nodes sound answers closes requests

@@ -8,7 +8,7 @@ use Rattle.id_table.specs.Order.{at_new, at_other, same_or_not}
 use Rattle.end_model.specs.declared.event.Event.{Event}
 use Rattle.end_model.specs.declared.moves.Move.{Move}
 use Rattle.end_model.specs.Secrets.{uncovered_event}
-use Rattle.end_model.specs.End.{Stepped}
+use Rattle.end_model.specs.End.{End, Stepped}
 use Rattle.world_model.specs.declared.standing.Standing.{Standing}
 use Rattle.session_book.specs.Books.{tunnel_at, call_at}
 use Rattle.book_laws.specs.Books.{Mirrors}
@@ -26,6 +26,7 @@ use Rattle.channel_laws.specs.Whole.{Leads, NoMove, OneMore, Below, WholeKept, W
 use Rattle.recovery_laws.specs.Answered.{AnswersAreToQuestions}
 use Rattle.recovery_laws.proofs.Alike.{IsLike, WasLike, stepped_like}
 use Rattle.join_laws.specs.Steps.{with_book, ChannelsClose}
+use Rattle.join_laws.specs.Roles.{RequestsStay}
 use Rattle.join_laws.proofs.Ahead.{book_standings, book_makes}
 use Rattle.join_laws.proofs.Books.{booked, book_here, book_other, book_born}
 use Rattle.line_join_laws.specs.Chains.{MovesJoin, EndsSound, IsStanding}
@@ -33,9 +34,9 @@ use Rattle.line_join_laws.specs.Lines.{JoinedStepsKeep}
 use Rattle.line_join_laws.proofs.Amid.{Amid}
 use Rattle.line_join_laws.proofs.Another.{SameJoin, AreSame, same_joined}
 use Rattle.line_join_laws.proofs.Born.{AreBorn, born_back, born_on, end_born, nodes_born, put_born, moved_born, shown_born}
-use Rattle.line_join_laws.proofs.Chain.{amid_along, joins_any, joined_lines_know}
-use Rattle.line_join_laws.proofs.Lists.{Anything}
+use Rattle.line_join_laws.proofs.Chain.{amid_along, joined_lines_know}
 use Rattle.line_join_laws.proofs.Nodes.{left_others}
+use Rattle.line_join_laws.proofs.Roles.{KeepsRoles, keeps_has}
 use Rattle.line_join_laws.proofs.Rebooked.{tunnels_same, calls_same, book_births}
 
 -- ---- along its moves
@@ -76,10 +77,9 @@ some_there : (o p : Option Node) (a : Node) → is_some p ≡ is_some o → o �
 some_there o None a same is = let no : false ≡ true = same ∙ ap (λ q. is_some q) is in absurd cc
 some_there o (Some b) a same is = (b, refl)
 
-module _ (once : AnswersOfRuns) (answers : AnswersAreToQuestions) (closes : ChannelsClose) (steps : WholeStepsKeep) (join : MovesJoin)
-    (w : World)
-    (h : History) (number : ℕ) (x : Lined) (s : WholeStep w number x) (top most : ℕ) (stands : IsStanding w h top)
-    (room : top + 131072 < 2 ^ 64)
+module _ (once : AnswersOfRuns) (answers : AnswersAreToQuestions) (closes : ChannelsClose) (requests : RequestsStay)
+    (steps : WholeStepsKeep) (join : MovesJoin) (w : World) (h : History) (number : ℕ) (x : Lined) (s : WholeStep w number x) (top most : ℕ)
+    (stands : IsStanding w h top) (room : top + 131072 < 2 ^ 64)
     (below : Below h most) (few : most + 147460 < 2 ^ 64) (nodes : NodesHold x.world) (sound : EndsSound x.world) where
   abbrev n : ℕ
   n = s.node
@@ -96,15 +96,15 @@ module _ (once : AnswersOfRuns) (answers : AnswersAreToQuestions) (closes : Chan
   pub kept : WholeKept w h number x s most
   kept =
       steps w h number x s most stands.nodes stands.holds below few
-      (joined_lines_know once answers closes join w h top stands room s.node s.old s.found s.event s.sender s.was s.up s.finds s.comes)
+      (joined_lines_know once answers closes requests join w h top stands room s.node s.old s.found s.event s.sender s.was s.up s.finds
+      s.comes)
 
-  abbrev v : World
+  abbrev pub v : World
   v = kept.behind
 
-  amid : Amid Anything n top stands.machine v g
-  amid = amid_along Anything answers closes w h top stands room n s.old s.was s.up s.sender s.found.clock read
-      (joins_any join read) q.moves v g
-      kept.leads kept.holds_behind
+  amid : Amid read n top stands.machine v g
+  amid = amid_along answers closes requests w h top stands room n s.old s.was s.up s.sender s.found.clock read
+      join q.moves v g kept.leads kept.holds_behind
 
   -- the world in which its moves are told
   abbrev left : Node
@@ -127,7 +127,7 @@ module _ (once : AnswersOfRuns) (answers : AnswersAreToQuestions) (closes : Chan
   shown_so =
       shown_born n q.outputs v (moved_all n q.moves b0) (leads_born n s.sender s.found.clock read w h b0 told q.moves v g kept.leads)
 
-  born : AreBorn v x.world
+  pub born : AreBorn v x.world
   born = subst (AreBorn v) (sym s.world) shown_so
 
   -- its own node
@@ -205,6 +205,21 @@ module _ (once : AnswersOfRuns) (answers : AnswersAreToQuestions) (closes : Chan
     born = born.born ∙ sym (book_born v n amid.book amid.node amid.there);
   }
 
+  pub keeps_roles : KeepsRoles v x.world
+  keeps_roles p b is = ⊎_elim
+      (λ (e : p ≡ n).
+      let one : new ≡ b = same_Some new b (sym there.1 ∙ (ap (at x.world.nodes) (sym e) ∙ is)) in
+      (amid.node, ap (at v.nodes) e ∙ amid.there, ap (λ (y : End). y.role) (sym end_is) ∙ ap (λ (y : Node). y.end.role) one))
+      (λ (o : p ≡ n → ⊥). of_other o (at v.nodes p) refl)
+      (same_or_not p n)
+    where
+      of_other : (p ≡ n → ⊥) → (o : Option Node) → at v.nodes p ≡ o
+          → (a : Node) × (at v.nodes p ≡ Some a) × (a.end.role ≡ b.end.role)
+      of_other o None none = absurd (subst (λ q. SameJoin q (Some b)) none (subst (SameJoin (at v.nodes p)) is (same_other p o)))
+      of_other o (Some a) was =
+          let same = subst (λ q. SameJoin q (Some b)) was (subst (SameJoin (at v.nodes p)) is (same_other p o)) in
+          (a, was, ap (λ (y : End). y.role) (sym same.0))
+
   pub stepped_stands : IsStanding x.world g (top + 65536)
   stepped_stands = record {
     nodes = nodes;
@@ -214,6 +229,7 @@ module _ (once : AnswersOfRuns) (answers : AnswersAreToQuestions) (closes : Chan
     joined = same_joined u x.world g (goes_on all_rules stands.machine amid.moves) same amid.joined;
     answers = amid.answers;
     closes = amid.closes;
+    roles = requests.others v x.world g (keeps_has v x.world g keeps_roles) amid.roles;
     counts = record {
       born =
           (let le = amid.born in
@@ -230,6 +246,6 @@ module _ (once : AnswersOfRuns) (answers : AnswersAreToQuestions) (closes : Chan
     };
   }
 
-pub joined_steps_keep : AnswersOfRuns → AnswersAreToQuestions → ChannelsClose → WholeStepsKeep → JoinedStepsKeep
-joined_steps_keep once answers closes steps join w h number x s top most stands room below few nodes sound =
-    stepped_stands once answers closes steps join w h number x s top most stands room below few nodes sound
+pub joined_steps_keep : AnswersOfRuns → AnswersAreToQuestions → ChannelsClose → RequestsStay → WholeStepsKeep → MovesJoin → JoinedStepsKeep
+joined_steps_keep once answers closes requests steps join w h number x s top most stands room below few nodes sound =
+    stepped_stands once answers closes requests steps join w h number x s top most stands room below few nodes sound

@@ -1,12 +1,9 @@
 -- The letter by which a tunnel or a call comes up in a step stood before the step.
-use Rattle.std.proofs.Common.{◌≡◌, ◌⊎◌, inl, inr, ⊎_elim, ℕ, suc, ◌<◌, true, false, List, [], ◌∷◌, refl, sym, ap, ap₂, ◌∙◌, subst, Option}
-use Rattle.std.proofs.Common.{Some, None, Ok, arith}
+use Rattle.std.proofs.Common.{◌≡◌, ◌⊎◌, inl, inr, ⊎_elim, ℕ, suc, ◌<◌, true, false, List, [], ◌∷◌, refl, sym, ap, ◌∙◌, subst, Option}
+use Rattle.std.proofs.Common.{Some, None, arith}
 use Rattle.std.proofs.lemmas.Bool.{true≢false}
 use Rattle.std.specs.Prelude.{if◌then◌else◌, slice_get, ◌&&◌, ◌==◌, not}
 use Rattle.end_model.specs.declared.event.Event.{Event}
-use Rattle.end_model.specs.declared.event.Event.TheVariants.{Datagram}
-use Rattle.end_model.specs.Reading.{message_in}
-use Rattle.l2tp_header.specs.Reading.{header_of, body_of}
 use Rattle.epoch_machine.specs.Names.{is_new, is_name}
 use Rattle.epoch_machine.specs.Letters.{Letter, Sccrq, Sccrp, Scccn, StopCcn, Hello, Request, Reply, Connect, Cdn, Fsq, Fsr}
 use Rattle.epoch_machine.specs.Tunnels.{Closed, is_open, is_active, is_wait_reply, is_wait_connect}
@@ -25,7 +22,9 @@ use Rattle.epoch_machine.proofs.Splits.{chosen}
 use Rattle.stop_laws.specs.Records.{node_of}
 use Rattle.stop_laws.specs.Steps.{is_outage, establishes, InStep, AllInStep}
 use Rattle.join_laws.specs.Steps.{AreOf}
-use Rattle.line_join_laws.specs.Cuts.{stage_of, stage, Hears, IsHeard, AreHeard, HeardMovesStand}
+use Rattle.join_laws.specs.Hearing.{stage, Hears, IsHeard, AreHeard}
+use Rattle.join_laws.proofs.Hearing.{hears_one}
+use Rattle.line_join_laws.specs.Cuts.{HeardMovesStand}
 
 -- ---- what a move gives
 
@@ -181,20 +180,7 @@ module _ (y f i : ℕ) (l : Letter) (up : establishes l ≡ true) where
   gives_by w (moves.Stops n ks) calm = absurd (true≢false calm)
   gives_by w (moves.Starts n) calm = absurd (true≢false calm)
 
--- ---- a step hears one message
-
-hears_one : (ev : Event) (a b : ℕ) → Hears ev a → Hears ev b → a ≡ b
-hears_one ev a b one two =
-    let q = one.comes in
-    let r = two.comes in
-    let both : Datagram one.came.peer q.bytes ≡ Datagram two.came.peer r.bytes = sym q.is ∙ r.is in
-    let bytes : q.bytes ≡ r.bytes = cc in
-    let headers : Ok one.came.header ≡ Ok two.came.header = sym q.read ∙ (ap header_of bytes ∙ r.read) in
-    let header : one.came.header ≡ two.came.header = cc in
-    let body : one.came.body ≡ two.came.body = q.body_is ∙ (ap₂ body_of bytes header ∙ sym r.body_is) in
-    let messages : Ok one.message ≡ Ok two.message = sym one.said ∙ (ap message_in body ∙ two.said) in
-    let message : one.message ≡ two.message = cc in
-    sym one.is ∙ (ap stage_of message ∙ two.is)
+-- ---- along the moves
 
 late : (l : Letter) → establishes l ≡ true → 1 < stage l
 late Sccrp up = omega arith
@@ -202,8 +188,6 @@ late Scccn up = omega arith
 late (Reply own z) up = omega arith
 late (Connect z) up = omega arith
 late l up = absurd (true≢false (sym up))
-
--- ---- along the moves
 
 module _ (ev : Event) (n : ℕ) (w : machine.World) where
   -- such a letter stood before the step, or the step hears the stage before it

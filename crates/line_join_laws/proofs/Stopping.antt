@@ -6,7 +6,9 @@ use Rattle.epoch_machine.specs.Moves.{falls, step, goes_on, after}
 use Rattle.stop_laws.specs.Steps.{records_along, AllInStep, CutAt, StopsAmidLists}
 use Rattle.recovery_laws.specs.Answered.{AnswersAreToQuestions}
 use Rattle.join_laws.specs.Steps.{ChannelsClose}
-use Rattle.line_join_laws.specs.Cuts.{IsHeard, HeardMovesStand, StopsThere, JoinedStepsStop}
+use Rattle.join_laws.specs.Roles.{RequestsStay}
+use Rattle.line_join_laws.specs.Chains.{MovesJoin}
+use Rattle.line_join_laws.specs.Cuts.{HeardMovesStand, StopsThere, JoinedStepsStop}
 use Rattle.line_join_laws.proofs.Chain.{amid_along}
 
 -- in a world that the machine's moves lead to
@@ -23,11 +25,12 @@ stops_there laws ms n js all =
       alike = laws.same_book ms n js all;
     }
 
-pub joined_steps_stop : AnswersAreToQuestions → ChannelsClose → HeardMovesStand → StopsAmidLists → JoinedStepsStop
-joined_steps_stop answers closes stand laws join w h top s room n old was up sender moment ev made v g leads holds =
-    let a = amid_along (IsHeard ev) answers closes w h top s room n old was up sender moment ev (join ev) made v g leads holds in
+pub joined_steps_stop : AnswersAreToQuestions → ChannelsClose → RequestsStay → HeardMovesStand → StopsAmidLists → MovesJoin
+    → JoinedStepsStop
+joined_steps_stop answers closes requests stand laws join w h top s room n old was up sender moment ev made v g leads holds =
+    let a = amid_along answers closes requests w h top s room n old was up sender moment ev join made v g leads holds in
     let run = s.joined.joined.run in
-    let all : AllInStep s.machine n s.machine a.moves = stand ev n s.machine a.moves a.own a.all in
+    let all : AllInStep s.machine n s.machine a.moves = stand ev n s.machine a.moves a.own a.heard in
     record {
       node = a.node;
       there = a.there;

@@ -10,11 +10,12 @@ use Rattle.channel_laws.specs.Accounts.{History}
 use Rattle.channel_laws.specs.Facts.{NodesHold, Holds}
 use Rattle.channel_laws.specs.Whole.{KnowsOfLine}
 use Rattle.recovery_laws.specs.Answered.{AllAnswer}
-use Rattle.join_laws.specs.Steps.{AllClose, IsJoined, Joins}
+use Rattle.join_laws.specs.Steps.{AllClose, IsJoined}
+use Rattle.join_laws.specs.Roles.{RequestsAreOfLacs, JoinsByRoles}
 
--- each move of a step is joined
+-- each move of a step is joined, where requests are of LACs
 abbrev pub MovesJoin : Type 0
-MovesJoin = (m : Move) → IsOfNoStart m → Joins m
+MovesJoin = (m : Move) → IsOfNoStart m → JoinsByRoles m
 
 -- each call of a node is in a state that one of the end's role can be in
 abbrev pub EndsSound : World → Type 0
@@ -38,8 +39,9 @@ pub record IsStanding (w : World) (h : History) (top : ℕ) : Type 0 where
   pub joined : IsJoined w h machine
   pub answers : AllAnswer h
   pub closes : AllClose h
+  pub roles : RequestsAreOfLacs w h
   pub counts : CountsWithin w top
 
 -- wherever the moves of a step lead from there, the epochs are known
 abbrev pub JoinedLinesKnow : Type 0
-JoinedLinesKnow = MovesJoin → (w : World) (h : History) (top : ℕ) → IsStanding w h top → top + 131072 < 2 ^ 64 → KnowsOfLine w h
+JoinedLinesKnow = (w : World) (h : History) (top : ℕ) → IsStanding w h top → top + 131072 < 2 ^ 64 → KnowsOfLine w h

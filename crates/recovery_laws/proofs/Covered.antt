@@ -1,5 +1,5 @@
 -- A session that one end of a link holds alone is covered, where the world is joined with the machine.
-use Rattle.std.proofs.Common.{◌≡◌, ◌⊎◌, inl, inr, ⊎_elim, ℕ, zero, suc, ◌+◌, ◌-◌, ◌<◌, ◌≤◌, Bool, true, false, List, [], ◌∷◌, ◌++◌, length, drop, slice_get, refl, sym, ap, ◌∙◌, subst, Option, Some, arith}
+use Rattle.std.proofs.Common.{◌≡◌, ◌⊎◌, inl, inr, ⊎_elim, ℕ, zero, suc, ◌+◌, ◌-◌, ◌<◌, ◌≤◌, Bool, true, false, List, [], ◌∷◌, ◌++◌, length, drop, slice_get, refl, sym, ap, ◌∙◌, subst, Option, Some, None, arith}
 use Rattle.std.proofs.lemmas.Bool.{eqb-true, eqb-false}
 use Rattle.std.proofs.lemmas.Option.{none-some, slice_get-map}
 use Rattle.std.specs.Prelude.{◌==◌, ◌||◌, take, not}
@@ -18,12 +18,14 @@ use Rattle.epoch_machine.specs.Worlds as machine
 use Rattle.epoch_machine.specs.Calls as calls
 use Rattle.birth_laws.specs.Births.{BirthsOfRuns}
 use Rattle.coverage_laws.specs.Coverage.{Mates, ConnectOutstanding, CdnOutstanding, CoverageOfRuns}
+use Rattle.frame_laws.specs.Plain.{HidesOk}
 use Rattle.connection_laws.specs.Facts.{kept_letter}
+use Rattle.connection_laws.proofs.Hearing.{all_at}
 use Rattle.connection_laws.proofs.Sent.{got_dropped}
 use Rattle.session_laws.specs.Names.{name, name_of}
 use Rattle.session_laws.specs.Sessions.{HoldsSession}
 use Rattle.channel_laws.specs.Accounts.{Part, Unmade, Opener, Acceptor, Renewed, Account, heeded, History}
-use Rattle.channel_laws.specs.Facts.{partner_in, AreAcked}
+use Rattle.channel_laws.specs.Facts.{partner_in, AreAcked, IsSpelledIn}
 use Rattle.recovery_laws.specs.Queries.{asks_in, answers_in, said_in, first_of, rest_of, letters_in, questions_in, weigh, QueriesJoined}
 use Rattle.recovery_laws.specs.Covered.{AreOpen, IsOutstanding, IccnIsOutstanding, CdnIsOutstanding, AsksFor, AreCovered, JoinedWorldsCover}
 use Rattle.recovery_laws.proofs.Epochs.{some_name, known_name}
@@ -200,6 +202,30 @@ ends n k asked header z other (message.Iccn speed framing sequenced) (inr never)
 ends n k asked header z other (message.Cdn session result error) (inl is) = (session, result, error, refl, cc)
 ends n k asked header z other (message.Cdn session result error) (inr never) = absurd never
 
+-- ---- what it hides
+
+-- a message that asks for no call
+IsNoRequest : Message → Type 0
+IsNoRequest x = (own serial : ℕ) (calling : Option (List ℕ)) → x ≡ message.Icrq own serial calling → ⊥
+
+-- what is spelled hides nothing but the Calling Number of a request
+none_hidden : (x : Message) (pairs : Option (List ℕ)) → IsNoRequest x → HidesOk x pairs → pairs ≡ None
+unfolding IsNoRequest
+none_hidden x None other h = refl
+none_hidden x (Some pairs) other h = absurd (other h.own h.serial (Some h.number) h.is)
+
+hides_none : (e : ℕ) (l : step.Letter) → IsNoRequest l.message → IsSpelledIn e l → l.hidden ≡ None
+hides_none e l other (inl s) = none_hidden l.message l.hidden other s.hides
+hides_none e l other (inr q) = q.1.plain
+
+iccn_no_request : (x : Message) → SaysIccn x → IsNoRequest x
+unfolding IsNoRequest
+iccn_no_request x says own serial calling is = let same = says.3 in cc
+
+cdn_no_request : (n z : ℕ) (x : Message) → SaysCdn n z x → IsNoRequest x
+unfolding IsNoRequest
+cdn_no_request n z x says own serial calling is = let same = says.3 in cc
+
 -- ---- names
 
 pub same_id : (n i j : ℕ) → name n i ≡ name n j → i ≡ j
@@ -281,7 +307,7 @@ module _ (w : World) (h : History) (m : machine.World) (g : Ground w h m) where
     -- a letter of the machine's that isn't taken is said by one that is outstanding
     behind_taken : (q : ℕ) (x : Letter) → slice_get (m.channels.sent (name n i) (m.tunnels.entered (name n i))) q ≡ Some x
         → m.channels.taken (name k j) (m.tunnels.entered (name n i)) ≤ q
-        → (s : IsSaid n a.peer a.given q x) × IsOutstanding t u s.letter
+        → (s : IsSaid n a.peer a.given q x) × (IsSpelledIn e s.letter) × IsOutstanding t u s.letter
     behind_taken q x is le =
         let here : slice_get (letters_in n a.peer (questions_in a.taken) a.given) q ≡ Some x =
         ap (λ ls. slice_get ls q) (sym (p.here.here.sent e)) ∙
@@ -291,8 +317,11 @@ module _ (w : World) (h : History) (m : machine.World) (g : Ground w h m) where
         p.there.here.taken e ∙ ap (λ (x : Account). weigh (take (heeded b) x.given)) (pairs.partner_back w h m g n i k j t u p) in
         let entered = p.here.here.entered in
         let few : weigh (take (heeded b) a.given) ≤ q =
-        subst (λ d. d ≤ q) taken (subst (λ d. m.channels.taken (name k j) d ≤ q) entered le) in
-        (said, outstanding said.place said.letter said.there (not_taken a.given said.place q (heeded b) said.below few))
+        subst (λ d. d ≤ q) taken (subst (λ d. m.channels.taken (name k j) d ≤ q) entered le) in (
+          said,
+          all_at (IsSpelledIn e) a.given said.place said.letter said.there p.here.account.spelled,
+          outstanding said.place said.letter said.there (not_taken a.given said.place q (heeded b) said.below few),
+        )
 
     -- ---- the mate of an established call
 
@@ -369,7 +398,13 @@ module _ (w : World) (h : History) (m : machine.World) (g : Ground w h m) where
           let says = connects n a.peer said.asked said.letter.session y said.letter.message said.among in
           let header : name k said.letter.session ≡ name k r = ap (λ q. name q said.letter.session)
           (sym (pairs.goes_to w h m g n i k j t u p)) ∙ says.1 in
-          record { letter = said.letter; says = says.0; header = same_id k said.letter.session r header; outstanding = found.1 }
+          record {
+            letter = said.letter;
+            says = says.0;
+            header = same_id k said.letter.session r header;
+            plain = hides_none e said.letter (iccn_no_request said.letter.message says.0) found.1;
+            outstanding = found.2;
+          }
 
       asks_for : QueriesJoined w h m → is_current (mode_of t.recovery) ≡ true → m.calls.asks (name n i) z ≡ true → AsksFor t s
       asks_for queries current is =
@@ -392,7 +427,8 @@ module _ (w : World) (h : History) (m : machine.World) (g : Ground w h m) where
           letter = said.letter;
           says =
               (says.1, says.2, says.3 ∙ ap (λ q. message.Cdn q says.1 says.2) (session_is says.0 r some says.4));
-          outstanding = found.1;
+          plain = hides_none _ said.letter (cdn_no_request k (name k r) said.letter.message says) found.1;
+          outstanding = found.2;
         }
       where
         session_is : (session r : ℕ) → 0 < r → name_of k session ≡ name k r → session ≡ r

@@ -2,7 +2,7 @@ pub mod Alike
 pub mod Nodes
 mod Gone
 pub mod Established
-mod Marks
+pub mod Marks
 mod Closed
 pub mod Epochs
 pub mod Crashes

@@ -144,7 +144,7 @@ front_apart i (suc n) [] apart = tt
 front_apart i (suc n) (r ∷ rs) apart = (apart.0, front_apart i n rs apart.1)
 
 -- what was committed of records of which none says that the tunnel came up
-committed_least : (i mark : ℕ) (k : Checkpoint) (rs : List Record) (c : Checkpoint) → IsCommitted k rs c → AllByRecursion (NotUp i) rs → IsAtLeast i mark k.book
+pub committed_least : (i mark : ℕ) (k : Checkpoint) (rs : List Record) (c : Checkpoint) → IsCommitted k rs c → AllByRecursion (NotUp i) rs → IsAtLeast i mark k.book
     → IsAtLeast i mark c.book
 committed_least i mark k rs c is apart h =
     subst (IsAtLeast i mark) (sym is.book) (all_least i mark k (take is.count rs) (front_apart i is.count rs apart) h)
@@ -158,7 +158,7 @@ is_open_so : (s : TunnelState) → state_number s ≡ 3 → is_open s ≡ true
 is_open_so s h = grind (arith, nat_tests)
 
 -- the tunnel of an end that its book has
-in_end : (e : End) (k : Kept) → Mirrors e k → (i : ℕ) (b : BookTunnel) → tunnel_at k i ≡ Some b → (t : Tunnel) × (at e.tunnels i ≡ Some t) × (state_number t.control.state ≡ 3)
+pub in_end : (e : End) (k : Kept) → Mirrors e k → (i : ℕ) (b : BookTunnel) → tunnel_at k i ≡ Some b → (t : Tunnel) × (at e.tunnels i ≡ Some t) × (state_number t.control.state ≡ 3)
 in_end e k mirrors i b there = by (at e.tunnels i) refl (sym (mirrors.tunnels i) ∙ there)
   where
     by : (o : Option Tunnel) → at e.tunnels i ≡ o → tunnel_record i o ≡ Some b → (t : Tunnel) × (at e.tunnels i ≡ Some t) × (state_number t.control.state ≡ 3)
@@ -171,7 +171,7 @@ in_end e k mirrors i b there = by (at e.tunnels i) refl (sym (mirrors.tunnels i)
         open_or_not false three h = absurd (none-some b h)
 
 -- and the other way round
-in_book : (e : End) (k : Kept) → Mirrors e k → (i : ℕ) (t : Tunnel) → at e.tunnels i ≡ Some t → state_number t.control.state ≡ 3
+pub in_book : (e : End) (k : Kept) → Mirrors e k → (i : ℕ) (t : Tunnel) → at e.tunnels i ≡ Some t → state_number t.control.state ≡ 3
     → (b : BookTunnel) × (tunnel_at k i ≡ Some b) × (b.mark ≡ t.control.mark)
 in_book e k mirrors i t there three = (
   booked_control i t.control,

@@ -36,13 +36,23 @@ module _ (w : World) (h : History) (m : machine.World) (g : Ground w h m) (queri
   -- each took all that was given to the other, and knows of all that it asked for
   record Rests (n i k j : ℕ) (t u : Tunnel) : Type 0 where
     two : Two w h m g n i k j t u
+    current : is_current (mode_of t.recovery) ≡ true
+    current_there : is_current (mode_of u.recovery) ≡ true
     took : t.control.channel.inbox.taken ≡ next_given u.control.channel
     taken : u.control.channel.inbox.taken ≡ next_given t.control.channel
     asks : IsComplete m (name n i)
     asked : IsComplete m (name k j)
 
   turned : (n i k j : ℕ) (t u : Tunnel) → Rests n i k j t u → Rests k j n i u t
-  turned n i k j t u p = record { two = swapped w h m g n i k j t u p.two; took = p.taken; taken = p.took; asks = p.asked; asked = p.asks }
+  turned n i k j t u p = record {
+    two = swapped w h m g n i k j t u p.two;
+    current = p.current_there;
+    current_there = p.current;
+    took = p.taken;
+    taken = p.took;
+    asks = p.asked;
+    asked = p.asks;
+  }
 
   module _ (n i k j : ℕ) (t u : Tunnel) (r : Rests n i k j t u) where
     abbrev p : Two w h m g n i k j t u
@@ -60,7 +70,7 @@ module _ (w : World) (h : History) (m : machine.World) (g : Ground w h m) (queri
     -- the number of the next letter is that of the first one, and how many were given
     next_is : next_given t.control.channel ≡ a.first_given + length a.given
     next_is =
-        let fits = numbers n p.one.node p.one.is i t p.one.there in
+        let fits = numbers n p.one.node p.one.is i t p.one.there r.current in
         let c = p.here.channel.counted in
         let few = p.here.channel.few in
         let acked = p.here.channel.acked_is in
@@ -167,6 +177,8 @@ module _ (w : World) (h : History) (m : machine.World) (g : Ground w h m) (queri
           current_there = current_there;
           established_there = three_there;
         });
+        current = current;
+        current_there = current_there;
         took = eqb-true t.control.channel.inbox.taken (next_given u.control.channel)
             (and_right ((((open_t && open_u) && names) && goes) && took) takes all);
         taken = eqb-true u.control.channel.inbox.taken (next_given t.control.channel)

@@ -1,5 +1,5 @@
 -- A session that one end of a link holds, and the other one doesn't, is covered.
-use Rattle.std.specs.Prelude.{◌≡◌, ◌⊎◌, ℕ, ◌+◌, ◌≤◌, ◌==◌, Bool, true, slice_get, Option, Some}
+use Rattle.std.specs.Prelude.{◌≡◌, ◌⊎◌, ℕ, ◌+◌, ◌≤◌, ◌==◌, Bool, true, slice_get, Option, Some, None}
 use Rattle.std.specs.List.{list_any}
 use Rattle.wire_base.specs.declared.pair.Pair.{Pair}
 use Rattle.control_message.specs.declared.message.Message.TheVariants.{Iccn, Cdn}
@@ -37,17 +37,19 @@ pub record IsOutstanding (t u : Tunnel) (l : Letter) : Type 0 where
   pub there : slice_get t.letters place ≡ Some (kept_letter l)
   pub waits : u.control.channel.inbox.taken ≤ t.control.channel.window.acked + place
 
--- so is the ICCN for a session of the other end's
+-- so is the ICCN for a session of the other end's; nothing in it is hidden, so what is kept is spelled as the message is
 pub record IccnIsOutstanding (t u : Tunnel) (session : ℕ) : Type 0 where
   pub letter : Letter
   pub says : (speed : ℕ) × (framing : ℕ) × (sequenced : Bool) × (letter.message ≡ Iccn speed framing sequenced)
   pub header : letter.session ≡ session
+  pub plain : letter.hidden ≡ None
   pub outstanding : IsOutstanding t u letter
 
--- or the CDN by which it ended a session of its own
+-- or the CDN by which it ended a session of its own, with nothing hidden
 pub record CdnIsOutstanding (t u : Tunnel) (session : ℕ) : Type 0 where
   pub letter : Letter
   pub says : (result : ℕ) × (error : Option ℕ) × (letter.message ≡ Cdn session result error)
+  pub plain : letter.hidden ≡ None
   pub outstanding : IsOutstanding t u letter
 
 -- a tunnel asks for a session, or is to

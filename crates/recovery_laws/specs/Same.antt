@@ -6,11 +6,11 @@ use Rattle.end_model.specs.Tunnels.{Tunnel}
 use Rattle.world_model.specs.World.{World, Node}
 use Rattle.world_model.specs.Run.{are_alike}
 use Rattle.epoch_machine.specs.Worlds as machine
-use Rattle.connection_laws.specs.Steps.{HasNumbers}
 use Rattle.session_laws.specs.Sessions.{HoldTheSame}
 use Rattle.channel_laws.specs.Accounts.{History}
 use Rattle.channel_laws.specs.Facts.{NodesHold, Holds}
 use Rattle.channel_laws.specs.Epochs.{IsLive}
+use Rattle.channel_laws.specs.Steps.{NumbersFit as FitIn}
 use Rattle.recovery_laws.specs.Joined.{AreJoined}
 use Rattle.recovery_laws.specs.Queries.{QueriesJoined}
 
@@ -24,9 +24,9 @@ pub record AgreeIn (w : World) (n i m j : ℕ) (t u : Tunnel) : Type 0 where
   pub remote : t.control.remote ≡ j
   pub alike : are_alike w.nodes n t u ≡ true
 
--- no count of letters has come to the end of its 64 bits
+-- no count of letters of a tunnel that is neither frozen nor restored has come to the end of its 64 bits
 abbrev pub NumbersFit : World → Type 0
-NumbersFit w = (n : ℕ) (node : Node) → at w.nodes n ≡ Some node → HasNumbers node.end
+NumbersFit w = (n : ℕ) (node : Node) → at w.nodes n ≡ Some node → FitIn node.end
 
 abbrev pub JoinedWorldsAgree : Type 0
 JoinedWorldsAgree = (w : World) (h : History)

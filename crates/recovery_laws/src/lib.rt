@@ -99,8 +99,8 @@ pub fn joined_worlds_agree()
 }
 
 /// And two tunnels that have learned each other, both established and neither frozen or restored, are in one epoch there; a session that
-/// the one holds and the other doesn't is covered: the ICCN for it waits to be taken, or the CDN by which the other ended it, or the
-/// holder asks for it, or is to.
+/// the one holds and the other doesn't is covered: the ICCN for it waits to be taken, or the CDN by which the other ended it, neither
+/// with anything hidden, or the holder asks for it, or is to.
 pub fn joined_worlds_cover()
     ensures { JoinedWorldsCover }
 {

@@ -17,6 +17,7 @@ returns c =
       lines = runs.lines;
       answers = laws.answers;
       closes = laws.closes;
+      requests = laws.requests;
       first = laws.first;
       keep = c.joined_lines_keep.ensures;
     })

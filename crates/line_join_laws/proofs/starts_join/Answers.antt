@@ -5,4 +5,4 @@ pub returns : goal.returns
 returns c =
     let laws = c.laws_below.ensures in
     let runs = c.laws_of_runs.ensures in
-    starts_join runs.starting runs.of_books runs.starts laws.answers laws.closes
+    starts_join runs.starting runs.of_books runs.starts laws.answers laws.closes laws.requests

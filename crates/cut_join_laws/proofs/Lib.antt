@@ -1,0 +1,14 @@
+pub mod SameLists
+pub mod Fronts
+pub mod Fewer
+pub mod Learning
+pub mod Booked
+pub mod Learned
+pub mod Before
+pub mod CutBook
+pub mod Ended
+pub mod Rising
+pub mod Down
+pub mod Amidst
+pub mod CutStands
+pub mod Roles
