@@ -1,0 +1,9 @@
+mod Cells
+mod Marked
+mod There
+mod Covered
+mod Draws
+mod Rising
+mod Drawn
+mod Numbers
+mod Entered

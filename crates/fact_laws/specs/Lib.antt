@@ -1,0 +1,4 @@
+pub mod Cells
+pub mod Draws
+pub mod Epochs
+pub mod Ids
