@@ -1,0 +1,9 @@
+mod Turns
+mod Reading
+mod Passing
+mod Strangers
+mod Committing
+mod Lines
+mod Silent
+mod Others
+mod Kept

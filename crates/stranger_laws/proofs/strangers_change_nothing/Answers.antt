@@ -1,0 +1,8 @@
+use Rattle.stranger_laws.proofs.Strangers as stranger
+use Rattle.stranger_laws.proofs.strangers_change_nothing.Goals as goal
+
+pub returns-clause-ends : goal.returns-clause-ends
+returns-clause-ends c = stranger.strangers_change_nothing
+
+pub returns-clause-hosts : goal.returns-clause-hosts
+returns-clause-hosts c = stranger.datagrams_are_of_ends

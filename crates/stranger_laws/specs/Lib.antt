@@ -1,0 +1,3 @@
+pub mod Strangers
+pub mod Lines
+pub mod Others
