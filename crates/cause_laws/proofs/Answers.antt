@@ -1,7 +1,7 @@
 -- What a line did are the moves of the step of the node to which it brings an event, and that step answers it.
 use Rattle.std.proofs.Common.{◌≡◌, inl, inr, ⊎_elim, false, ℕ, ◌+◌, ◌-◌, List, [], ◌∷◌, ◌++◌, length, map, refl, sym, ap, ◌∙◌, subst, Option, Some, None, Result, Ok}
 use Rattle.std.proofs.lemmas.Bool.{true≢false}
-use Rattle.std.specs.Prelude.{slice_get}
+use Rattle.std.specs.Prelude.{slice_get, option_map}
 use Rattle.id_table.specs.Ids.{at}
 use Rattle.wire_base.specs.declared.why.Why.{Why}
 use Rattle.wire_base.specs.declared.cause.Cause.{Cause as CauseOf}
@@ -24,6 +24,7 @@ use Rattle.world_model.specs.declared.held.Held.{Held}
 use Rattle.world_model.specs.World.{World, Node, taken_up, hand_move, Sender, Deed, Lined, after_step, given, entry_of, entries_of, shown, declared, lac_at, lns_at, with_call, with_tunnel, later, block_of, stepped, sender_of, line}
 use Rattle.world_model.specs.Run.{run}
 use Rattle.step_laws.specs.Answers.{RequestsAreAnswered}
+use Rattle.step_laws.specs.Steps.{StepsAreChains}
 use Rattle.pppoe_discovery.specs.declared.outcome.Discovered.{Discovered}
 use Rattle.end_model.specs.Access.{Coming, coming, Runs, Enters, Ignores, Answers}
 use Rattle.step_laws.specs.Hosts.{LacAt, with_host, OfFrame, frame_line}
@@ -33,6 +34,7 @@ use Rattle.cause_laws.specs.Causes.{Brings, moment_of}
 use Rattle.cause_laws.specs.Answers.{hands_first, step_at, AnswersOfRuns}
 use Rattle.node_laws.specs.Nodes.{EndsOfRuns}
 use Rattle.cause_laws.proofs.Nodes.{CallLaws, all_left, kept_in, goods_in, whole_step}
+use Rattle.cause_laws.proofs.Seen.{stepped_seen}
 
 -- what is done are the moves
 moves_done : (f : Move → Deed) → ((m : Move) → (f m).move ≡ m) → (ms : List Move) → map (λ (d : Deed). d.move) (map f ms) ≡ ms
@@ -52,15 +54,20 @@ among_first : (e : Entry) (es fs : List Entry) → Among e es → Among e (es ++
 among_first e [] fs a = absurd a
 among_first e (x ∷ es) fs a = ⊎_elim (λ is. inl is) (λ rest. inr (among_first e es fs rest)) a
 
--- what a line did and told of a node are the moves and the causes of the step that it brings
+-- what a line did and told of a node are the moves and the causes of the step that it brings, whose end the node then has
 record Does (w : World) (number : ℕ) (l : Line) (x : Lined) (n : ℕ) (node : Node) (ev : Event) : Type 0 where
   done : map (λ (d : Deed). d.move) x.done ≡ (step_at number l n node ev).moves
   told : (c : CauseOf) → Among (Cause c) (step_at number l n node ev).outputs → Among (Causes number n c) x.entries
+  left : option_map (λ (q : Node). q.end) (at x.world.nodes n) ≡ Some (step_at number l n node ev).end
 
 -- also with more entries behind
 does_more : (w : World) (number : ℕ) (l : Line) (x : Lined) (n : ℕ) (node : Node) (ev : Event) (es : List Entry) → Does w number l x n node ev
     → Does w number l (record x { entries = x.entries ++ es }) n node ev
-does_more w number l x n node ev es h = record { done = h.done; told = λ c a. among_first (Causes number n c) x.entries es (h.told c a) }
+does_more w number l x n node ev es h = record {
+  done = h.done;
+  told = λ c a. among_first (Causes number n c) x.entries es (h.told c a);
+  left = h.left;
+}
 
 module _ (w : World) (number : ℕ) (l : Line) (x : Lined) where
   -- a step that the line brings, of a node at the moment of the line
@@ -73,6 +80,8 @@ module _ (w : World) (number : ℕ) (l : Line) (x : Lined) where
       subst (λ (q : Lined). Does w number l q n old ev) is (record {
         done = moves_done _ (λ m. refl) s.moves ∙ ap (λ (q : Stepped). q.moves) alike;
         told = λ c a. told_caused number n c s.outputs _ (subst (λ (q : Stepped). Among (Cause c) q.outputs) (sym alike) a);
+        left = stepped_seen (λ (q : Node). q.end) (λ q births standings answers. refl) w number n node sender s
+            ∙ ap (λ (q : Stepped). Some q.end) alike;
       })
 
   -- a step of a node that is there, to which it brings this event
@@ -214,6 +223,7 @@ line_does w number (Start m) x alone h uncut n node ev was brings = absurd bring
 record DoesAll (w : World) (number : ℕ) (l : Line) (x : Lined) (n : ℕ) (node : Node) (ev : Event) : Type 0 where
   done : map (λ (d : Deed). d.move) x.done ≡ hands_first w l ++ (step_at number l n node ev).moves
   told : (c : CauseOf) → Among (Cause c) (step_at number l n node ev).outputs → Among (Causes number n c) x.entries
+  left : option_map (λ (q : Node). q.end) (at x.world.nodes n) ≡ Some (step_at number l n node ev).end
 
 hand_does : (w : World) (number m held : ℕ) (n : ℕ) (node : Node) (ev : Event) → at w.nodes n ≡ Some node → Brings w (Hand m held) n ev
     → OfHand (λ y. y.cut ≡ false → DoesAll w number (Hand m held) y n node ev) w number m held
@@ -226,7 +236,7 @@ hand_does w number m held n node ev was brings = record {
       let event_is : ev ≡ event.Lcp k.frame.session k.frame.frame = brings.4 ∙ ap (λ (f : Held). event.Lcp f.session f.frame) (sym same) in
       let d = stepped_does (taken_up w m held) number (Hand m held) y m (event.Lcp k.frame.session k.frame.frame) None (Ok k.node)
       (λ q e. (let here : k.node ≡ q = cc in rw (← here) k.there)) (λ q. refl) whole steps n node ev was brings.3 event_is in
-      record { done = rw k.held (ap (λ ms. hand_move k.frame ∷ ms) d.done); told = λ c a. inr (d.told c a) });
+      record { done = rw k.held (ap (λ ms. hand_move k.frame ∷ ms) d.done); told = λ c a. inr (d.told c a); left = d.left });
   cut = λ k y lcp steps off uncut. absurd (true≢false (sym off ∙ uncut));
 }
 
@@ -236,20 +246,24 @@ unfolding line
 line_all w number (Hand m held) x h uncut n node ev was brings =
     hand_line (λ y. y.cut ≡ false → DoesAll w number (Hand m held) y n node ev) w number m held (hand_does w number m held n node ev was brings) x h uncut
 line_all w number l x h uncut n node ev was brings =
-    let d = line_does w number l x tt h uncut n node ev was brings in record { done = d.done; told = d.told }
+    let d = line_does w number l x tt h uncut n node ev was brings in record { done = d.done; told = d.told; left = d.left }
 
 -- ---- runs
 
-pub answers_of_runs : RequestsAreAnswered → CallLaws → EndsOfRuns → AnswersOfRuns
-answers_of_runs answers laws ends lines fits before after l split x made uncut n node ev was brings =
+pub answers_of_runs : RequestsAreAnswered → StepsAreChains → CallLaws → EndsOfRuns → AnswersOfRuns
+answers_of_runs answers chains laws ends lines fits before after l split x made uncut n node ev was brings =
     let whole : AreLines (before ++ l ∷ after) = subst AreLines split fits in
     let first = all_left FitsLine before (l ∷ after) whole in
     let r = run before in
+    let kept = kept_in laws ends before first n node was in
     let fine = (goods_in laws ends before first n node was).fine in
     let does = line_all r.world (length before + 1) l x made uncut n node ev was brings in
+    let block = block_of n (length before + 1) in
+    let heard = uncovered_event node.end.config.secret ev in
     record {
       done = does.done;
       told = does.told;
-      answers = answers node.end (kept_in laws ends before first n node was) fine.sound fine.asked (moment_of l node)
-          (block_of n (length before + 1)) (uncovered_event node.end.config.secret ev);
+      answers = answers node.end kept fine.sound fine.asked (moment_of l node) block heard;
+      chain = chains node.end kept (moment_of l node) block heard;
+      left = does.left;
     }

@@ -1,10 +1,7 @@
 -- What a frame is to a LAC, said by the tags that it has and by the hosts that the LAC holds.
-use Rattle.std.proofs.Common.{◌≡◌, ℕ, ◌≤◌, Bool, true, false, cond, ◌&&◌, List, [], ◌∷◌, ◌++◌, length, Option, Some, None, Ok, Err, refl, sym, ap, ◌∙◌, subst, eqb, not, ◌||◌, Result}
+use Rattle.std.proofs.Common.{◌≡◌, ℕ, ◌≤◌, Bool, true, false, cond, List, [], ◌∷◌, length, Option, Some, None, Ok, Err, refl, sym, ap, ◌∙◌, subst, eqb, not, ◌||◌, Result}
 use Rattle.std.specs.Prelude.{find, is_some, if◌then◌else◌, ◌-◌, take, drop, nat_lt}
-use Rattle.std.specs.List.{AllByRecursion}
-use Rattle.std.specs.Bool.{nat_eq}
-use Rattle.std.specs.Cmp.Lexicographic.{pointwise}
-use Rattle.std.specs.Option.{option_map, option_eq}
+use Rattle.std.specs.Option.{option_map}
 use Rattle.std.proofs.lemmas.Bool.{eqb-true, eqb-false, ne_eqb, true≢false, ltb-false, le-ltb}
 use Rattle.std.proofs.lemmas.Slice.Eq.{bytes_eq-Decides}
 use Rattle.id_table.specs.Ids.{at}
@@ -20,8 +17,7 @@ use Rattle.pppoe_discovery.specs.Asking.{is_of, value_of, service_of, asked_by}
 use Rattle.pppoe_discovery.specs.Discovery.{refused, offer, admission, taken, discovered, is_for, requested, discovered_by}
 use Rattle.pppoe_discovery.specs.Replies.{pado, pads, refusal}
 use Rattle.pppoe_discovery.specs.Told.{pads_to}
-use Rattle.pppoe_session.specs.declared.Subscriber.{Subscriber}
-use Rattle.pppoe_session.specs.Subscribers.{is_repeat, repeat_in}
+use Rattle.pppoe_session.specs.Subscribers.{repeat_in}
 use Rattle.end_names.specs.Names.{host_name, mac_of}
 use Rattle.end_model.specs.declared.event.Event.{Event}
 use Rattle.end_model.specs.declared.event.Event.TheVariants as event
@@ -30,8 +26,9 @@ use Rattle.end_model.specs.Access.{Access, is_host, Coming, Ignores, Answers, Ru
 use Rattle.world_model.specs.World.{World}
 use Rattle.step_laws.specs.Hosts.{LacAt, discovered_at}
 use Rattle.cause_laws.specs.Refusals.{IsPadr, NoneIsOf, IsFirst, AsksFor, IsServed, IsRefusedFor, ForItsService, ForItsCookie}
-use Rattle.cause_laws.specs.Hosts.{IsPadi, HasValue, AtNone, AtFirst, IsAsked, HasCookie, CameBy, IsHeld, IsNew, HostActs, HostSends, HostLeaves, FrameBrings, ByItsHost, ByAPadr}
+use Rattle.cause_laws.specs.Hosts.{IsPadi, HasValue, AtNone, AtFirst, IsAsked, HasCookie, IsHeld, IsNew, HostActs, HostSends, HostLeaves, FrameBrings, ByItsHost, ByAPadr}
 use Rattle.cause_laws.proofs.Refusals.{first_found, asks_service, service_asks, own_cookie}
+use Rattle.cause_laws.proofs.Held.{AreApart, found_held, held_found}
 use Rattle.pppoe_wire.specs.declared.frame.Pppoe.{Pppoe}
 use Rattle.pppoe_wire.specs.declared.error.PppoeError.{PppoeError}
 use Rattle.pppoe_wire.specs.declared.error.TagError.{TagError}
@@ -122,78 +119,6 @@ module _ (key mac name bytes src : List ℕ) (tags : List Tag) where
     admits p cookie =
         padr_found p
         ∙ rw (service_is, own_cookie key src tags cookie.tag cookie.first cookie.value, value_is 0x0103 tags uniq asked.uniq_is, value_is 0x0110 tags relay asked.relay_is) refl
-
--- ---- hosts that are held
-
-same_uniq : (a b : Option (List ℕ)) → option_eq (pointwise nat_eq) a b ≡ true → a ≡ b
-same_uniq None None h = refl
-same_uniq None (Some y) h = absurd cc
-same_uniq (Some x) None h = absurd cc
-same_uniq (Some x) (Some y) h = ap (λ (v : List ℕ). Some v) ((bytes_eq-Decides x y).0 h)
-
-uniq_same : (a : Option (List ℕ)) → option_eq (pointwise nat_eq) a a ≡ true
-uniq_same None = refl
-uniq_same (Some x) = (bytes_eq-Decides x x).1 refl
-
-both_true : (a b : Bool) → (a && b) ≡ true → (a ≡ true) × (b ≡ true)
-both_true true b h = (refl, h)
-both_true false b h = absurd cc
-
-module _ (src : List ℕ) (uniq : Option (List ℕ)) where
-  repeats_by : (h : ℕ × Subscriber) → CameBy src uniq h → is_repeat src uniq h.1 ≡ true
-  unfolding is_repeat
-  repeats_by h came = rw (came.0, came.1, (bytes_eq-Decides src src).1 refl, uniq_same uniq) refl
-
-  repeats_not : (h : ℕ × Subscriber) → (CameBy src uniq h → ⊥) → is_repeat src uniq h.1 ≡ false
-  unfolding is_repeat
-  repeats_not h other = by (pointwise nat_eq h.1.mac src && option_eq (pointwise nat_eq) h.1.uniq uniq) refl
-    where
-      by : (b : Bool) → (pointwise nat_eq h.1.mac src && option_eq (pointwise nat_eq) h.1.uniq uniq) ≡ b
-          → (pointwise nat_eq h.1.mac src && option_eq (pointwise nat_eq) h.1.uniq uniq) ≡ false
-      by true is =
-          let both = both_true (pointwise nat_eq h.1.mac src) (option_eq (pointwise nat_eq) h.1.uniq uniq) is in
-          absurd (other ((bytes_eq-Decides h.1.mac src).0 both.0, same_uniq h.1.uniq uniq both.1))
-      by false is = is
-
-  found_behind : (before after : List (ℕ × Subscriber)) (session : ℕ) (who : Subscriber) → CameBy src uniq (session, who)
-      → AllByRecursion (λ (h : ℕ × Subscriber). CameBy src uniq h → ⊥) before → repeat_in (before ++ (session, who) ∷ after) src uniq ≡ Some session
-  unfolding repeat_in
-  found_behind [] after session who came first = rw (repeats_by (session, who) came) refl
-  found_behind (h ∷ before) after session who came first = rw (repeats_not h first.0) (found_behind before after session who came first.1)
-
-  pub held_found : (a : Access) (session : ℕ) → IsHeld a src uniq session → repeat_in a.held src uniq ≡ Some session
-  held_found a session h = ap (λ es. repeat_in es src uniq) h.held ∙ found_behind h.before h.after session h.who h.came h.first
-
-  came_by : (h : ℕ × Subscriber) → is_repeat src uniq h.1 ≡ true → CameBy src uniq h
-  unfolding is_repeat
-  came_by h is =
-      let both = both_true (pointwise nat_eq h.1.mac src) (option_eq (pointwise nat_eq) h.1.uniq uniq) is in
-      ((bytes_eq-Decides h.1.mac src).0 both.0, same_uniq h.1.uniq uniq both.1)
-
-  -- what is found is held
-  pub found_held : (key : List ℕ) (es kept : List (ℕ × Subscriber)) (session : ℕ) → repeat_in es src uniq ≡ Some session
-      → IsHeld (record { key = key; held = es; kept = kept }) src uniq session
-  unfolding repeat_in
-  found_held key [] kept session h = absurd cc
-  found_held key (x ∷ es) kept session h = by (is_repeat src uniq x.1) refl h (found_held key es kept session)
-    where
-      by : (b : Bool) → is_repeat src uniq x.1 ≡ b
-          → option_map (λ (e : ℕ × Subscriber). e.0) (cond b (Some x) (find (λ (e : ℕ × Subscriber). is_repeat src uniq e.1) es)) ≡ Some session
-          → (repeat_in es src uniq ≡ Some session → IsHeld (record { key = key; held = es; kept = kept }) src uniq session)
-          → IsHeld (record { key = key; held = x ∷ es; kept = kept }) src uniq session
-      by true is f later =
-          let same : x.0 ≡ session = cc in
-          record { before = []; who = x.1; after = es; held = ap (λ (s : ℕ). (s, x.1) ∷ es) same; came = came_by x is; first = tt }
-      by false is f later =
-          let rest = later f in
-          record {
-            before = x ∷ rest.before;
-            who = rest.who;
-            after = rest.after;
-            held = ap (λ hs. x ∷ hs) rest.held;
-            came = rest.came;
-            first = (λ came. true≢false (sym (repeats_by x came) ∙ is), rest.first);
-          }
 
 -- ---- what is found
 
@@ -407,9 +332,9 @@ module _ (a : Access) (e : End) (bytes : List ℕ) where
       subst (HostActs a e bytes) same
       (HostSends p.frame (record { reads = p.reads; to = p.to; live = rw p.session_is live; holds = rw (p.source, p.session_is) holds }) p.stage p.code)
 
-  wants_so : (src service : List ℕ) (uniq relay : Option (List ℕ)) → IsAdmitted a.key mac_at name_at bytes src service uniq relay
+  wants_so : AreApart a.held → (src service : List ℕ) (uniq relay : Option (List ℕ)) → IsAdmitted a.key mac_at name_at bytes src service uniq relay
       → LedSo (wants_call a e src uniq (Admit src service uniq relay) (repeat_in a.held src uniq))
-  wants_so src service uniq relay h = by (repeat_in a.held src uniq) refl
+  wants_so apart src service uniq relay h = by (repeat_in a.held src uniq) refl
     where
       by : (o : Option ℕ) → repeat_in a.held src uniq ≡ o → LedSo (wants_call a e src uniq (Admit src service uniq relay) o)
       by None none =
@@ -418,7 +343,7 @@ module _ (a : Access) (e : End) (bytes : List ℕ) where
             relay = relay;
             asked_is = refl;
             admitted = h;
-            new = λ s held live. let both : None ≡ Some s = sym none ∙ held_found src uniq a s held in absurd cc;
+            new = λ s held live. let both : None ≡ Some s = sym none ∙ held_found a apart src uniq s held in absurd cc;
           }
       by (Some q) found = of (is_some (at e.calls q)) refl
         where
@@ -432,49 +357,49 @@ module _ (a : Access) (e : End) (bytes : List ℕ) where
                 asked_is = refl;
                 admitted = h;
                 new = λ s held live.
-                    let both : Some q ≡ Some s = sym found ∙ held_found src uniq a s held in
+                    let both : Some q ≡ Some s = sym found ∙ held_found a apart src uniq s held in
                     let same : q ≡ s = cc in
                     true≢false (sym (subst (λ r. is_some (at e.calls r) ≡ true) (sym same) live) ∙ dead);
               }
 
-  led_so : (d : Discovered) → FoundSo a.key mac_at name_at bytes d → LedSo (led_to a e bytes d)
+  led_so : AreApart a.held → (d : Discovered) → FoundSo a.key mac_at name_at bytes d → LedSo (led_to a e bytes d)
   unfolding led_to
-  led_so (Ignored word) h = tt
-  led_so (Reply because frame) h = AsDiscovery h
-  led_so (Admit src service uniq relay) h = wants_so src service uniq relay h
-  led_so (Left src session) h =
+  led_so apart (Ignored word) h = tt
+  led_so apart (Reply because frame) h = AsDiscovery h
+  led_so apart (Admit src service uniq relay) h = wants_so apart src service uniq relay h
+  led_so apart (Left src session) h =
       call_so src session (event.Hang session) (padt_acts src session h) (is_some (at e.calls session)) (is_host a src session) refl refl
-  led_so (Carried src session start stop) h =
+  led_so apart (Carried src session start stop) h =
       call_so src session (event.Payload session (take (stop - start) (drop start bytes))) (frame_acts src session start stop h) (is_some (at e.calls session))
       (is_host a src session) refl refl
 
-  pub answered_so : (because : Option Cause) (frame : List ℕ) → coming a e bytes ≡ Answers because frame → IsAnswer because frame × (length bytes ≤ 2048)
+  pub answered_so : AreApart a.held → (because : Option Cause) (frame : List ℕ) → coming a e bytes ≡ Answers because frame → IsAnswer because frame × (length bytes ≤ 2048)
   unfolding coming
-  answered_so because frame h = by (nat_lt 2048 (length bytes)) refl h
+  answered_so apart because frame h = by (nat_lt 2048 (length bytes)) refl h
     where
       by : (b : Bool) → nat_lt 2048 (length bytes) ≡ b → (if b then Ignores why.Long else led_to a e bytes (discovered_at a e bytes)) ≡ Answers because frame
           → IsAnswer because frame × (length bytes ≤ 2048)
       by true long g = absurd cc
-      by false short g = (subst LedSo g (led_so (discovered_at a e bytes) (found_so a.key mac_at name_at bytes)), ltb-false 2048 (length bytes) short)
+      by false short g = (subst LedSo g (led_so apart (discovered_at a e bytes) (found_so a.key mac_at name_at bytes)), ltb-false 2048 (length bytes) short)
 
-  pub entered_so : (src : List ℕ) (uniq : Option (List ℕ)) (asked : Discovered) → coming a e bytes ≡ Enters src uniq asked
+  pub entered_so : AreApart a.held → (src : List ℕ) (uniq : Option (List ℕ)) (asked : Discovered) → coming a e bytes ≡ Enters src uniq asked
       → IsEntry src uniq asked × (length bytes ≤ 2048)
   unfolding coming
-  entered_so src uniq asked h = by (nat_lt 2048 (length bytes)) refl h
+  entered_so apart src uniq asked h = by (nat_lt 2048 (length bytes)) refl h
     where
       by : (b : Bool) → nat_lt 2048 (length bytes) ≡ b → (if b then Ignores why.Long else led_to a e bytes (discovered_at a e bytes)) ≡ Enters src uniq asked
           → IsEntry src uniq asked × (length bytes ≤ 2048)
       by true long g = absurd cc
-      by false short g = (subst LedSo g (led_so (discovered_at a e bytes) (found_so a.key mac_at name_at bytes)), ltb-false 2048 (length bytes) short)
+      by false short g = (subst LedSo g (led_so apart (discovered_at a e bytes) (found_so a.key mac_at name_at bytes)), ltb-false 2048 (length bytes) short)
 
-  runs_so : (ev : Event) → coming a e bytes ≡ Runs ev → HostActs a e bytes ev × (length bytes ≤ 2048)
+  runs_so : AreApart a.held → (ev : Event) → coming a e bytes ≡ Runs ev → HostActs a e bytes ev × (length bytes ≤ 2048)
   unfolding coming
-  runs_so ev h = by (nat_lt 2048 (length bytes)) refl h
+  runs_so apart ev h = by (nat_lt 2048 (length bytes)) refl h
     where
       by : (b : Bool) → nat_lt 2048 (length bytes) ≡ b → (if b then Ignores why.Long else led_to a e bytes (discovered_at a e bytes)) ≡ Runs ev
           → HostActs a e bytes ev × (length bytes ≤ 2048)
       by true long g = absurd cc
-      by false short g = (subst LedSo g (led_so (discovered_at a e bytes) (found_so a.key mac_at name_at bytes)), ltb-false 2048 (length bytes) short)
+      by false short g = (subst LedSo g (led_so apart (discovered_at a e bytes) (found_so a.key mac_at name_at bytes)), ltb-false 2048 (length bytes) short)
 
   -- ---- and the other way
 
@@ -520,12 +445,12 @@ module _ (w : World) (n : ℕ) (bytes : List ℕ) where
   frame_comes ev (ByAPadr l src service tags uniq relay short padr asked cookie new is) =
       OfAPadr l src uniq (Admit src service uniq relay) (admits_enter l.access l.node.end bytes short src service tags uniq relay padr asked cookie new) is
 
-  pub host_brings : (ev : Event) (l : LacAt w n) → coming l.access l.node.end bytes ≡ Runs ev → FrameBrings w n bytes ev
-  host_brings ev l is = let h = runs_so l.access l.node.end bytes ev is in ByItsHost l h.1 h.0
+  pub host_brings : (ev : Event) (l : LacAt w n) → AreApart l.access.held → coming l.access l.node.end bytes ≡ Runs ev → FrameBrings w n bytes ev
+  host_brings ev l apart is = let h = runs_so l.access l.node.end bytes apart ev is in ByItsHost l h.1 h.0
 
-  pub padr_brings : (l : LacAt w n) (src : List ℕ) (uniq : Option (List ℕ)) (asked : Discovered) → coming l.access l.node.end bytes ≡ Enters src uniq asked
+  pub padr_brings : (l : LacAt w n) → AreApart l.access.held → (src : List ℕ) (uniq : Option (List ℕ)) (asked : Discovered) → coming l.access l.node.end bytes ≡ Enters src uniq asked
       → FrameBrings w n bytes (event.Admitted src)
-  padr_brings l src uniq asked is =
-      let so = entered_so l.access l.node.end bytes src uniq asked is in
+  padr_brings l apart src uniq asked is =
+      let so = entered_so l.access l.node.end bytes apart src uniq asked is in
       let h = so.0 in
       ByAPadr l src h.service h.admitted.tags uniq h.relay so.1 h.admitted.padr h.admitted.asked h.admitted.cookie h.new refl

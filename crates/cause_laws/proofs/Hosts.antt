@@ -42,8 +42,9 @@ use Rattle.step_laws.specs.Answers.{causes_of}
 use Rattle.step_laws.specs.Rings.{RingsCome}
 use Rattle.cause_laws.specs.Refusals.{IsPadr, IsRefusedFor}
 use Rattle.cause_laws.specs.Hosts.{IsPadi, HasValue, IsAsked, HasCookie, IsHeld, IsNew, frame_in, frames_in, cause_in, causes_in, TellsOnly, TellsPads, TellsRefusal, HostEnters, HostIsAnswered, AnswersHosts}
-use Rattle.cause_laws.proofs.Coming.{offered, admits, refuses, padr_found, held_found, found_held, padr_brings}
-use Rattle.cause_laws.proofs.Nodes.{EndsAreKept, AreGood, never_cut, whole_step}
+use Rattle.cause_laws.proofs.Coming.{offered, admits, refuses, padr_found, padr_brings}
+use Rattle.cause_laws.proofs.Held.{found_held, held_found}
+use Rattle.cause_laws.proofs.Nodes.{EndsAreKept, AreGood, lac_apart, never_cut, whole_step}
 use Rattle.cause_laws.proofs.Lines.{entry_answered}
 
 -- ---- entries
@@ -175,7 +176,7 @@ module _ (w : World) (number n : ℕ) (bytes : List ℕ) (short : length bytes �
   again_told src service tags uniq relay session p asked cookie held live =
       told_only _
       (coming_is (Admit src service uniq relay) (admits l.access.key mac (host_name e.role e.config.number) bytes src tags service uniq relay asked p cookie)
-      ∙ (rw (held_found src uniq l.access session held, live) refl))
+      ∙ (rw (held_found l.access (lac_apart w goods n l) src uniq session held, live) refl))
 
   -- ---- a PADR
 
@@ -248,7 +249,7 @@ module _ (w : World) (number n : ℕ) (bytes : List ℕ) (short : length bytes �
         ap (λ (q : Lined). q.entries) c.is in
         let done : map (λ m. deed_of v number n e.role None m) made_step.moves ≡ x.done = ap (λ (q : Lined). q.done) c.is in
         record {
-          brings = padr_brings w n bytes l src uniq asked is;
+          brings = padr_brings w n bytes l (lac_apart w goods n l) src uniq asked is;
           done = ap (map (λ (d : Deed). d.move)) (sym done) ∙ moves_done (λ m. deed_of v number n e.role None m) (λ m. refl) made_step.moves;
           causes =
               ap causes_in (sym entries)

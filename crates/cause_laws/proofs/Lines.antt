@@ -39,7 +39,8 @@ use Rattle.std.proofs.lemmas.Bool.{true≢false}
 use Rattle.wire_base.specs.declared.cause.Cause.{Cause as BecauseOf}
 use Rattle.world_model.specs.Texts.{Frames}
 use Rattle.step_laws.specs.Hosts.{LacAt, with_host, reply_to, OfFrame, frame_line, never_full, discovery_refuses}
-use Rattle.cause_laws.proofs.Nodes.{EndsAreKept, was_whole}
+use Rattle.cause_laws.proofs.Held.{AreApart}
+use Rattle.cause_laws.proofs.Nodes.{EndsAreKept, AreGood, lac_apart, was_whole}
 use Rattle.cause_laws.proofs.Refusals.{refused_padr}
 use Rattle.cause_laws.proofs.Coming.{Offers, Declines, IsAnswer, AsDiscovery, AsBefore, answered_so, entered_so, host_brings, padr_brings}
 use Rattle.cause_laws.specs.Hosts.{AnswersEntry, WithSession, WithCause}
@@ -233,7 +234,7 @@ module _ (causes : CausesStand) (room : StepsRefuseTruly) (quiet : StartsSendOnl
       quiet_true v (tested_not (is_some (at w.nodes n)) (quiet_line v) (Unfit why.Twice) x h).1
 
 -- what is answered to an Ethernet frame, with a cause where discovery has one
-module _ (w : World) (number n : ℕ) (bytes : List ℕ) (l : LacAt w n) where
+module _ (w : World) (number n : ℕ) (bytes : List ℕ) (l : LacAt w n) (apart : AreApart l.access.held) where
   told_frame : (because : Option BecauseOf) (frame : List ℕ) → length bytes ≤ 2048 → IsAnswer l.access l.node.end bytes because frame
       → FrameIsTrue w number (Frame n bytes) n frame
   told_frame because frame short (AsDiscovery (Offers src service tags uniq relay none padi asked is)) =
@@ -246,10 +247,10 @@ module _ (w : World) (number n : ℕ) (bytes : List ℕ) (l : LacAt w n) where
   answers_true : (because : Option BecauseOf) (frame : List ℕ) → coming l.access l.node.end bytes ≡ Answers because frame
       → AllByRecursion (IsTrue w number (Frame n bytes)) (answer_entries number n because frame)
   answers_true None frame is =
-      let so = answered_so l.access l.node.end bytes None frame is in
+      let so = answered_so l.access l.node.end bytes apart None frame is in
       ((refl, told_frame None frame so.1 so.0), tt)
   answers_true (Some c) frame is =
-      let so = answered_so l.access l.node.end bytes (Some c) frame is in
+      let so = answered_so l.access l.node.end bytes apart (Some c) frame is in
       let found = discovery_refuses l.access l.node.end bytes c frame is in
       let r = refused_padr l.access.key (mac_of l.node.end.config.number) (host_name l.node.end.role l.node.end.config.number) bytes c frame found in (
         (refl, InDiscovery (record { lac = l; bytes = bytes; line_is = refl; src = r.src; tags = r.tags; padr = r.padr; why = r.why })),
@@ -295,32 +296,32 @@ entry_answered before asked s comes = by (takes_id before.session_ids) refl
         of false dead = refused comes (λ session drawn. let same : q ≡ session = cc in subst (λ r. is_some (at s.end.calls r) ≡ false) same dead)
 
 -- the frame of a host that enters
-entry_true_of : (w : World) (number n : ℕ) (bytes : List ℕ) (l : LacAt w n) (src : List ℕ) (uniq : Option (List ℕ)) (asked : Discovered)
+entry_true_of : (w : World) (number n : ℕ) (bytes : List ℕ) (l : LacAt w n) → AreApart l.access.held → (src : List ℕ) (uniq : Option (List ℕ)) (asked : Discovered)
     → coming l.access l.node.end bytes ≡ Enters src uniq asked
     → AnswersEntry l.node.end asked (step l.node.end l.node.clock (block_of n number) (event.Admitted src)) (reply_to w number n l src asked)
     → FrameIsTrue w number (Frame n bytes) n (reply_to w number n l src asked)
-entry_true_of w number n bytes l src uniq asked is answers =
-    let so = entered_so l.access l.node.end bytes src uniq asked is in
+entry_true_of w number n bytes l apart src uniq asked is answers =
+    let so = entered_so l.access l.node.end bytes apart src uniq asked is in
     let h = so.0 in
     let s = step l.node.end l.node.clock (block_of n number) (event.Admitted src) in
     OfEntry l bytes src h.service h.admitted.tags uniq h.relay refl so.1 h.admitted.padr h.admitted.asked h.admitted.cookie h.new
     (subst (λ d. AnswersEntry l.node.end d s (reply_to w number n l src asked)) h.asked_is answers)
 
-frame_true : CausesStand → StepsRefuseTruly → StartsSendOnly → RingsCome → (w : World) → EndsAreKept w → (number n : ℕ) (bytes : List ℕ)
+frame_true : CausesStand → StepsRefuseTruly → StartsSendOnly → RingsCome → (w : World) → EndsAreKept w → AreGood w → (number n : ℕ) (bytes : List ℕ)
     → OfFrame (λ y. AllByRecursion (IsTrue w number (Frame n bytes)) y.entries) w number n bytes
-frame_true causes room quiet rings w kept number n bytes = record {
+frame_true causes room quiet rings w kept goods number n bytes = record {
   ignored = λ l word is x h u. ((refl, (λ queue. absurd (never_full l.access l.node.end bytes (is ∙ ap Ignores queue))), tt), tt);
-  answered = λ l because frame is x h u. answers_true w number n bytes l because frame is;
+  answered = λ l because frame is x h u. answers_true w number n bytes l (lac_apart w goods n l) because frame is;
   done = λ l ev is does x h.
       stepped_true causes room quiet w kept number (Frame n bytes) x n ev None (Ok l.node) (λ node e. (let same : l.node ≡ node = cc in rw (← same) l.there)) (λ node. refl)
-      (refl, host_brings w n bytes ev l is) h;
+      (refl, host_brings w n bytes ev l (lac_apart w goods n l) is) h;
   entered = λ l src uniq asked is x h u.
       all_both (IsTrue w number (Frame n bytes)) x.entries (Frames number n (reply_to w number n l src asked) ∷ [])
       (entered_true causes room quiet w kept number (Frame n bytes) x n (event.Admitted src) l.node (with_host w number n l src uniq) l.there refl refl
-      (refl, padr_brings w n bytes l src uniq asked is) h) (
+      (refl, padr_brings w n bytes l (lac_apart w goods n l) src uniq asked is) h) (
         (
           refl,
-          entry_true_of w number n bytes l src uniq asked is
+          entry_true_of w number n bytes l (lac_apart w goods n l) src uniq asked is
               (entry_answered l.node.end asked (step l.node.end l.node.clock (block_of n number) (event.Admitted src))
               (rings l.node.end (kept n l.node l.there) l.lac l.node.clock (block_of n number) (event.Admitted src) src refl)),
         ),
@@ -330,47 +331,47 @@ frame_true causes room quiet rings w kept number n bytes = record {
 }
 
 -- of each kind
-pub line_true : CausesStand → StepsRefuseTruly → StartsSendOnly → RingsCome → (w : World) → EndsAreKept w → (number : ℕ) (l : Line) → TellsTruly w number l
+pub line_true : CausesStand → StepsRefuseTruly → StartsSendOnly → RingsCome → (w : World) → EndsAreKept w → AreGood w → (number : ℕ) (l : Line) → TellsTruly w number l
 unfolding line crashed armed held_line
-line_true causes room quiet rings w kept number (Remark text) x h =
+line_true causes room quiet rings w kept goods number (Remark text) x h =
     let is : quiet_line w ≡ x = cc in quiet_true causes room quiet w kept number (Remark text) x w is
-line_true causes room quiet rings w kept number (Lac n m secret hide) x h =
+line_true causes room quiet rings w kept goods number (Lac n m secret hide) x h =
     added_true causes room quiet w kept number (Lac n m secret hide) x n role.Lac (address_of m) secret hide h
-line_true causes room quiet rings w kept number (Lns n secret) x h =
+line_true causes room quiet rings w kept goods number (Lns n secret) x h =
     added_true causes room quiet w kept number (Lns n secret) x n role.Lns 0 secret false h
-line_true causes room quiet rings w kept number (OpenUp n) x h =
+line_true causes room quiet rings w kept goods number (OpenUp n) x h =
     stepped_true causes room quiet w kept number (OpenUp n) x n event.OpenTunnel None (lac_at (at w.nodes n)) (λ node e. (is_lac_at (at w.nodes n) node e).0)
     (λ node. refl) (refl, refl) h
-line_true causes room quiet rings w kept number (Close n i) x h =
+line_true causes room quiet rings w kept goods number (Close n i) x h =
     stepped_true causes room quiet w kept number (Close n i) x n (event.CloseTunnel i) None (with_tunnel i (declared (at w.nodes n)))
     (λ node e. is_declared (at w.nodes n) node (has_tunnel i (declared (at w.nodes n)) node e)) (λ node. refl) (refl, refl) h
-line_true causes room quiet rings w kept number (Ring n port) x h =
+line_true causes room quiet rings w kept goods number (Ring n port) x h =
     stepped_true causes room quiet w kept number (Ring n port) x n (event.Ring port) None (lac_at (at w.nodes n))
     (λ node e. (is_lac_at (at w.nodes n) node e).0) (λ node. refl) (refl, refl) h
-line_true causes room quiet rings w kept number (Frame n bytes) x h =
-    frame_line (λ y. AllByRecursion (IsTrue w number (Frame n bytes)) y.entries) w number n bytes (frame_true causes room quiet rings w kept number n bytes) x h
-line_true causes room quiet rings w kept number (FromSub n session frame) x h =
+line_true causes room quiet rings w kept goods number (Frame n bytes) x h =
+    frame_line (λ y. AllByRecursion (IsTrue w number (Frame n bytes)) y.entries) w number n bytes (frame_true causes room quiet rings w kept goods number n bytes) x h
+line_true causes room quiet rings w kept goods number (FromSub n session frame) x h =
     stepped_true causes room quiet w kept number (FromSub n session frame) x n (event.Payload session frame) None (with_call session (lac_at (at w.nodes n)))
     (λ node e. (is_lac_at (at w.nodes n) node (has_call session (lac_at (at w.nodes n)) node e)).0) (λ node. refl) (refl, refl) h
-line_true causes room quiet rings w kept number (Down n session frame) x h =
+line_true causes room quiet rings w kept goods number (Down n session frame) x h =
     stepped_true causes room quiet w kept number (Down n session frame) x n (event.Lower session frame) None (with_call session (lns_at (at w.nodes n)))
     (λ node e. (is_lns_at (at w.nodes n) node (has_call session (lns_at (at w.nodes n)) node e)).0) (λ node. refl) (refl, refl) h
-line_true causes room quiet rings w kept number (Hang n session) x h =
+line_true causes room quiet rings w kept goods number (Hang n session) x h =
     stepped_true causes room quiet w kept number (Hang n session) x n (event.Hang session) None (with_call session (lac_at (at w.nodes n)))
     (λ node e. (is_lac_at (at w.nodes n) node (has_call session (lac_at (at w.nodes n)) node e)).0) (λ node. refl) (refl, refl) h
-line_true causes room quiet rings w kept number (DropCall n session) x h =
+line_true causes room quiet rings w kept goods number (DropCall n session) x h =
     stepped_true causes room quiet w kept number (DropCall n session) x n (event.DropCall session) None (with_call session (declared (at w.nodes n)))
     (λ node e. is_declared (at w.nodes n) node (has_call session (declared (at w.nodes n)) node e)) (λ node. refl) (refl, refl) h
-line_true causes room quiet rings w kept number (Deliver k) x h =
+line_true causes room quiet rings w kept goods number (Deliver k) x h =
     deliver_line (AllByRecursion (IsTrue w number (Deliver k)) x.entries) w number x (line w number (Deliver k)) (slice_get w.packets (k - 1))
     (λ p node sent there up young so leads.
     stepped_true causes room quiet w kept number (Deliver k) x p.to (event.Datagram (address_of p.from) p.bytes) (sender_of p.from p.origin) (Ok node)
     (λ q same. (let is : node ≡ q = cc in rw (← is) there)) (λ q. refl) (p, sent, refl, refl) leads)
     refl h
-line_true causes room quiet rings w kept number (Load n p) x h =
+line_true causes room quiet rings w kept goods number (Load n p) x h =
     load_line (λ y. AllByRecursion (IsTrue w number (Load n p)) y.entries) w number n (slice_get w.packets (p - 1))
     (record { dropped = λ word other. ((refl, (λ queue. absurd (other queue)), tt), tt); held = λ f is. (refl, tt) }) x h
-line_true causes room quiet rings w kept number (Hand n p) x h =
+line_true causes room quiet rings w kept goods number (Hand n p) x h =
     hand_line (λ y. AllByRecursion (IsTrue w number (Hand n p)) y.entries) w number n p
     (record {
       passed = λ k other. ((refl, tt), tt);
@@ -383,7 +384,7 @@ line_true causes room quiet rings w kept number (Hand n p) x h =
     heard k y lcp steps =
         heard_true causes room quiet w kept number (Hand n p) y (taken_up w n p) n k.node (event.Lcp k.frame.session k.frame.frame) k.there refl
         (k.frame, k.held, lcp, refl, refl) steps
-line_true causes room quiet rings w kept number (Tick n milliseconds) x h =
+line_true causes room quiet rings w kept goods number (Tick n milliseconds) x h =
     step_line (AllByRecursion (IsTrue w number (Tick n milliseconds)) x.entries) w number x n event.Tick None (later milliseconds (declared (at w.nodes n)))
     (λ node e c whole is.
     let k = is_put_on w n milliseconds node e in
@@ -392,7 +393,7 @@ line_true causes room quiet rings w kept number (Tick n milliseconds) x h =
     (λ node e c cut is.
     cut_told causes room quiet w kept number (Tick n milliseconds) x n node c is)
     h
-line_true causes room quiet rings w kept number (Crash n) x h = by (declared (at w.nodes n)) h
+line_true causes room quiet rings w kept goods number (Crash n) x h = by (declared (at w.nodes n)) h
   where
     by : (o : Result Node Why) → crashed w number n o ≡ Ok x → AllByRecursion (IsTrue w number (Crash n)) x.entries
     by (Err y) h = absurd (cc)
@@ -400,7 +401,7 @@ line_true causes room quiet rings w kept number (Crash n) x h = by (declared (at
         let v = without_held (with_node w n (fallen (block_of n number) node.end node node.checkpoint)) n in
         let is : quiet_line v ≡ x = cc in
         quiet_true causes room quiet w kept number (Crash n) x v is
-line_true causes room quiet rings w kept number (Stop n commit call keeps) x h = by (declared (at w.nodes n)) h
+line_true causes room quiet rings w kept goods number (Stop n commit call keeps) x h = by (declared (at w.nodes n)) h
   where
     stop : StopAt
     stop = record { commit = commit; kept = keeps }
@@ -411,4 +412,4 @@ line_true causes room quiet rings w kept number (Stop n commit call keeps) x h =
         let v = with_node w n (record node { checkpoint = with_stop (Some stop) node.checkpoint }) in
         let is : quiet_line v ≡ x = cc in
         quiet_true causes room quiet w kept number (Stop n commit call keeps) x v is
-line_true causes room quiet rings w kept number (Start n) x h = started_true causes room quiet w kept number (Start n) x n (down_at (at w.nodes n)) h
+line_true causes room quiet rings w kept goods number (Start n) x h = started_true causes room quiet w kept number (Start n) x n (down_at (at w.nodes n)) h

@@ -1,5 +1,5 @@
--- What each line keeps of each node: its calls and tunnels are as they have to be; and no stop is armed that stops at no record, so that a step
--- which commits nothing isn't cut off.
+-- What each line keeps of each node: its calls and tunnels are as they have to be; no stop is armed that stops at no record, so that a step
+-- which commits nothing isn't cut off; and no two hosts that a LAC holds came by one address and Host-Uniq.
 use Rattle.std.proofs.Common.{◌≡◌, ⊎_elim, Bool, true, false, ℕ, ◌+◌, ◌-◌, ◌^◌, ◌≤◌, List, [], ◌∷◌, ◌++◌, length, take, refl, sym, ap, ◌∙◌, subst, Option, Some, None, Result, Ok, Err, arith}
 use Rattle.std.specs.Prelude.{is_some, min, nat_le, slice_get, if◌then◌else◌}
 use Rattle.std.specs.List.{AllByRecursion}
@@ -30,19 +30,21 @@ use Rattle.end_model.specs.declared.tunnel.Config.{Config}
 use Rattle.end_model.specs.Secrets.{uncovered_event}
 use Rattle.end_model.specs.Tunnels.{Tunnel}
 use Rattle.end_model.specs.End.{End, Stepped, plain_step, step}
-use Rattle.end_model.specs.Starting.{bare_end, starts}
+use Rattle.end_model.specs.Starting.{bare_end, starts, kept_hosts, access_over}
+use Rattle.end_model.specs.Access.{Access, new_access, access_with, entered}
 use Rattle.world_model.specs.declared.refusal.Refusal.{Refusal}
 use Rattle.world_model.specs.declared.refusal.Refusal.TheVariants.{Unfit}
 use Rattle.world_model.specs.declared.standing.Standing.{Standing}
 use Rattle.world_model.specs.declared.stop.StopAt.{StopAt}
 use Rattle.world_model.specs.World.{World, Node, Checkpoint, Sender, Lined, Committed, IsFull, IsCut, IsWhole, quiet_line, with_node, with_birth_at, with_birth, birth_of, is_born, standing_of, with_standing_at, with_standing, with_answer_at, answer_in, has_made, makes_epoch, enters_epoch, moved, moved_all, sent, shown, shown_all, given, after_step, recorded, recorded_all, is_full, with_stop, kept_by, commits_by, commits, fallen, without_held, held_line, taken_up, cut_line, committed, declared, lac_at, lns_at, down_at, with_call, with_tunnel, later, new_node, added, block_of, stepped, sender_of, crashed, armed, opened, started, line}
 use Rattle.world_model.specs.Run.{Run, empty_run, after_line, goes_on, run_from, run}
-use Rattle.step_laws.specs.Lines.{tested_not, is_lac_at, is_lns_at, is_declared, is_down_at, has_call, has_tunnel, IsAt, is_at, at_moment, is_later, WasWhole, committed_line, step_line, deliver_line, load_line, IsHeldAt, hand_line}
-use Rattle.step_laws.specs.Hosts.{with_host, entering, OfFrame, frame_line}
+use Rattle.step_laws.specs.Lines.{tested_not, is_lac_at, is_lns_at, is_declared, is_down_at, has_call, has_tunnel, IsTimed, IsAt, at_moment, is_later, WasWhole, committed_line, step_line, deliver_line, load_line, IsHeldAt, hand_line}
+use Rattle.step_laws.specs.Hosts.{LacAt, with_host, entering, OfFrame, frame_line}
 use Rattle.step_laws.specs.Left.{CanBe, AreSound, AreAsked, AreFew, CallsStaySound, CallsAreAsked, LateCallsEnd, FailedTunnelsGo, TunnelsBeginFew, TunnelsStayFew}
 use Rattle.step_laws.specs.Steps.{AreKept}
 use Rattle.book_laws.specs.Starts.{StartsAreBooked}
 use Rattle.node_laws.specs.Nodes.{HoldsNode, NodesOfRuns, EndsOfRuns}
+use Rattle.cause_laws.proofs.Held.{AreApart, none_apart, entered_apart}
 
 -- ---- laws of steps
 
@@ -145,10 +147,15 @@ pub record IsFine (e : End) : Type 0 where
   pub asked : AreAsked e
   pub few : AreFew e
 
--- and with them the stop that is armed
+-- the hosts that a LAC holds
+abbrev pub HostsApart : Option Access → Type 0
+HostsApart o = (a : Access) → o ≡ Some a → AreApart a.held
+
+-- and with them the stop that is armed, and the hosts
 pub record IsGood (node : Node) : Type 0 where
   pub fine : IsFine node.end
   pub real : IsReal node.checkpoint.stop
+  pub apart : HostsApart node.access
 
 abbrev pub AreGood : World → Type 0
 AreGood w = (n : ℕ) (node : Node) → at w.nodes n ≡ Some node → IsGood node
@@ -186,6 +193,25 @@ start_fine starting node h moment block =
       few = b.fit.tables.few;
     }
 
+none_hosts : (a : Access) → a.held ≡ [] → HostsApart (Some a)
+none_hosts a none b is = let same : a ≡ b = cc in subst (λ (c : Access). AreApart c.held) same (subst AreApart (sym none) none_apart)
+
+-- a LAC that is made, falls or starts holds no hosts
+new_apart : (r : Role) (key : List ℕ) → HostsApart (access_with r key)
+new_apart role.Lac key = none_hosts (new_access key) refl
+new_apart role.Lns key = λ a is. absurd (none-some a is)
+
+started_apart : (r : Role) (key : List ℕ) (k : Kept) → HostsApart (access_over r key k)
+started_apart role.Lac key k = none_hosts (record { key = key; held = []; kept = kept_hosts k.calls [] }) refl
+started_apart role.Lns key k = λ a is. absurd (none-some a is)
+
+-- and one that a host enters
+entered_hosts : (a : Access) → AreApart a.held → (before : End) (src : List ℕ) (uniq : Option (List ℕ)) (s : Stepped)
+    → HostsApart (Some (entered a before src uniq s))
+entered_hosts a apart before src uniq s b is =
+    let same : entered a before src uniq s ≡ b = cc in
+    subst (λ (c : Access). AreApart c.held) same (entered_apart a apart before src uniq s)
+
 -- ---- worlds
 
 put_good : (w : World) (n : ℕ) (node : Node) → AreGood w → IsGood node → AreGood (with_node w n node)
@@ -200,12 +226,13 @@ put_good w n node goods is m x there = ⊎_elim
 
 -- a node with other births, standings or answers
 other_good : (w : World) (n : ℕ) (node more : Node) → at w.nodes n ≡ Some node → more.end ≡ node.end → more.checkpoint ≡ node.checkpoint
-    → AreGood w → AreGood (with_node w n more)
-other_good w n node more is end checkpoint goods =
+    → more.access ≡ node.access → AreGood w → AreGood (with_node w n more)
+other_good w n node more is end checkpoint access goods =
     let g = goods n node is in
     put_good w n more goods (record {
       fine = subst IsFine (sym end) g.fine;
       real = subst (λ (k : Checkpoint). IsReal k.stop) (sym checkpoint) g.real;
+      apart = subst HostsApart (sym access) g.apart;
     })
 
 birth_good : (w : World) (n session birth : ℕ) → AreGood w → AreGood (with_birth w n session birth)
@@ -214,7 +241,7 @@ birth_good w n session birth goods = by (at w.nodes n) refl
   where
     by : (o : Option Node) → at w.nodes n ≡ o → AreGood (with_birth_at w n session birth o)
     by None is = goods
-    by (Some node) is = other_good w n node (record node { births = put node.births session birth }) is refl refl goods
+    by (Some node) is = other_good w n node (record node { births = put node.births session birth }) is refl refl refl goods
 
 standing_good : (w : World) (n i : ℕ) (s : Standing) → AreGood w → AreGood (with_standing w n i s)
 unfolding with_standing
@@ -222,14 +249,14 @@ standing_good w n i s goods = by (at w.nodes n) refl
   where
     by : (o : Option Node) → at w.nodes n ≡ o → AreGood (with_standing_at w n i s o)
     by None is = goods
-    by (Some node) is = other_good w n node (record node { standings = put node.standings i s }) is refl refl goods
+    by (Some node) is = other_good w n node (record node { standings = put node.standings i s }) is refl refl refl goods
 
 answer_good : (w : World) (n answer epoch : ℕ) → AreGood w → AreGood (with_answer_at w n answer epoch (at w.nodes n))
 answer_good w n answer epoch goods = by (at w.nodes n) refl
   where
     by : (o : Option Node) → at w.nodes n ≡ o → AreGood (with_answer_at w n answer epoch o)
     by None is = goods
-    by (Some node) is = other_good w n node (record node { answers = put node.answers answer epoch }) is refl refl goods
+    by (Some node) is = other_good w n node (record node { answers = put node.answers answer epoch }) is refl refl refl goods
 
 made_good : (w : World) (n i epoch : ℕ) → AreGood w → AreGood (has_made w n i epoch)
 made_good w n i epoch goods = standing_good w n i (record (standing_of w n i) { made = epoch }) goods
@@ -302,7 +329,21 @@ shown_good n (Gone session ∷ os) w goods = shown_good n os w goods
 shown_good n (Drop x ∷ os) w goods = shown_good n os w goods
 shown_good n (Cause x ∷ os) w goods = shown_good n os w goods
 
+-- ---- lines that are cut off, and lines that aren't
+
+pub was_cut : (w : World) (number n : ℕ) (node : Node) (k : Checkpoint) (x : Lined) → cut_line w number n node k ≡ x → x.cut ≡ true
+unfolding cut_line
+was_cut w number n node k x is = ap (λ (l : Lined). l.cut) (sym is)
+
+pub was_whole : (w : World) (number n : ℕ) (node : Node) (sender : Option Sender) (s : Stepped) (x : Lined) → after_step w number n node sender s ≡ x → x.cut ≡ false
+unfolding after_step given
+was_whole w number n node sender s x is = ap (λ (l : Lined). l.cut) (sym is)
+
 -- ---- lines
+
+-- the hosts of a LAC
+pub lac_apart : (w : World) → AreGood w → (n : ℕ) (l : LacAt w n) → AreApart l.access.held
+lac_apart w goods n l = (goods n l.node l.there).apart l.access l.keeps
 
 module _ (laws : CallLaws) (w : World) (number : ℕ) (kept : EndsAreKept w) (goods : AreGood w) where
   -- a node whose step may be made
@@ -327,16 +368,20 @@ module _ (laws : CallLaws) (w : World) (number : ℕ) (kept : EndsAreKept w) (go
 
   cut_good : (n : ℕ) (node : Node) (k : Checkpoint) → AreGood (cut_line w number n node k).world
   unfolding cut_line fallen
-  cut_good n node k = put_good w n (fallen (block_of n number) node.end node k) goods (record { fine = bare_fine node.end.role node.end.config k.book; real = none_real })
+  cut_good n node k = put_good w n (fallen (block_of n number) node.end node k) goods (record {
+    fine = bare_fine node.end.role node.end.config k.book;
+    real = none_real;
+    apart = new_apart node.end.role (block_of n number);
+  })
 
   commit_good : (n : ℕ) (node : Node) (sender : Option Sender) (s : Stepped) → IsFine s.end → IsReal node.checkpoint.stop
-      → (x : Lined) → committed w number n node sender s ≡ Ok x → AreGood x.world
-  commit_good n node sender s fine is x made =
+      → HostsApart node.access → (x : Lined) → committed w number n node sender s ≡ Ok x → AreGood x.world
+  commit_good n node sender s fine is apart x made =
       committed_line (AreGood x.world) w number n node sender s x
       (λ k whole e.
       subst (λ (l : Lined). AreGood l.world) e
       (after_good n (record node { checkpoint = k }) sender s
-      (record { fine = fine; real = still_real node.checkpoint (contents_of node.end s) is k whole })))
+      (record { fine = fine; real = still_real node.checkpoint (contents_of node.end s) is k whole; apart = apart })))
       (λ k cut e. subst (λ (l : Lined). AreGood l.world) e (cut_good n node k))
       made
 
@@ -347,7 +392,7 @@ module _ (laws : CallLaws) (w : World) (number : ℕ) (kept : EndsAreKept w) (go
   stepped_good x n ev sender (Ok node) is h =
       let may = is node refl in
       commit_good n node sender (step node.end node.clock (block_of n number) ev)
-      (step_fine node may node.clock (block_of n number) (uncovered_event node.end.config.secret ev)) may.0.real x h
+      (step_fine node may node.clock (block_of n number) (uncovered_event node.end.config.secret ev)) may.0.real may.0.apart x h
 
   added_good : (n : ℕ) (r : Role) (lns : ℕ) (secret : Option (List ℕ)) (hide : Bool) (x : Lined) → added w number n r lns secret hide ≡ Ok x → AreGood x.world
   unfolding added
@@ -355,30 +400,60 @@ module _ (laws : CallLaws) (w : World) (number : ℕ) (kept : EndsAreKept w) (go
       let new = new_node number n r lns secret hide in
       let t = tested_not (is_some (at w.nodes n)) (quiet_line (with_node w n new)) (Unfit why.Twice) x h in
       subst (λ (l : Lined). AreGood l.world) t.1 (put_good w n new goods
-      (record { fine = none_fine new.end refl (laws.begin_few r new.end.config); real = none_real }))
+      (record {
+        fine = none_fine new.end refl (laws.begin_few r new.end.config);
+        real = none_real;
+        apart = new_apart r (block_of n number);
+      }))
 
   -- a node at some moment, with some hosts
-  at_good : (n : ℕ) (node : Node) → IsAt w n node → MayStep node
-  at_good n node is =
+  at_good : (n : ℕ) (node : Node) → IsAt w n node → HostsApart node.access → MayStep node
+  at_good n node is apart =
       let g = goods n is.before is.there in
-      subst MayStep (sym is.same) (record { fine = g.fine; real = g.real }, kept n is.before is.there)
+      let same : node.end ≡ is.before.end = ap (λ (q : Node). q.end) is.same in
+      let checkpoint : node.checkpoint ≡ is.before.checkpoint = ap (λ (q : Node). q.checkpoint) is.same in (
+        record {
+          fine = subst IsFine (sym same) g.fine;
+          real = subst (λ (k : Checkpoint). IsReal k.stop) (sym checkpoint) g.real;
+          apart = apart;
+        },
+        subst AreKept (sym same) (kept n is.before is.there),
+      )
 
   there_good : (n : ℕ) (node : Node) → at w.nodes n ≡ Some node → MayStep node
   there_good n node there = (goods n node there, kept n node there)
 
-  one_good : (n : ℕ) (ev : Event) (node : Node) → IsAt w n node → (x : Lined) → stepped w number n ev None (Ok node) ≡ Ok x → AreGood x.world
-  one_good n ev node is x h =
-      stepped_good x n ev None (Ok node) (λ q e. (let same : node ≡ q = cc in subst MayStep same (at_good n node is))) h
+  -- a node at another moment
+  timed_good : (n : ℕ) (node : Node) → IsTimed w n node → MayStep node
+  timed_good n node is =
+      let access : node.access ≡ is.before.access = ap (λ (q : Node). q.access) is.same in
+      at_good n node (at_moment w n node is) (subst HostsApart (sym access) (goods n is.before is.there).apart)
+
+  one_good : (n : ℕ) (ev : Event) (node : Node) → MayStep node → (x : Lined) → stepped w number n ev None (Ok node) ≡ Ok x → AreGood x.world
+  one_good n ev node may x h = stepped_good x n ev None (Ok node) (λ q e. (let same : node ≡ q = cc in subst MayStep same may)) h
+
+  -- a node falls whose step is cut off
+  off_good : (n : ℕ) (ev : Event) (node : Node) (x : Lined) → stepped w number n ev None (Ok node) ≡ Ok x → x.cut ≡ true → AreGood x.world
+  off_good n ev node x h off =
+      step_line (AreGood x.world) w number x n ev None (Ok node)
+      (λ q e k whole made.
+      absurd (true≢false (sym off ∙ was_whole w number n (record q { checkpoint = k }) None (step q.end q.clock (block_of n number) ev) x made)))
+      (λ q e k cut made. subst (λ (l : Lined). AreGood l.world) made (cut_good n q k)) h
 
   of_frame : (n : ℕ) (bytes : List ℕ) → OfFrame (λ (x : Lined). AreGood x.world) w number n bytes
   of_frame n bytes = record {
-    ignored = λ l word is x h u. one_good n (event.Frame bytes) l.node (is_at w n l.node l.there) x h;
-    answered = λ l because frame is x h u. one_good n (event.Frame bytes) l.node (is_at w n l.node l.there) x h;
-    done = λ l ev is does x h. one_good n ev l.node (is_at w n l.node l.there) x h;
-    entered = λ l src uniq asked is x h u.
-        one_good n (event.Admitted src) (with_host w number n l src uniq) (entering w number n l src uniq (with_host w number n l src uniq) refl) x h;
-    cut = λ l ev node is x h c. one_good n ev node is x h;
+    ignored = λ l word is x h u. one_good n (event.Frame bytes) l.node (there_good n l.node l.there) x h;
+    answered = λ l because frame is x h u. one_good n (event.Frame bytes) l.node (there_good n l.node l.there) x h;
+    done = λ l ev is does x h. one_good n ev l.node (there_good n l.node l.there) x h;
+    entered = λ l src uniq asked is x h u. one_good n (event.Admitted src) (with_host w number n l src uniq) (enters n l src uniq) x h;
+    cut = λ l ev node is x h c. off_good n ev node x h c;
   }
+    where
+      enters : (n : ℕ) (l : LacAt w n) (src : List ℕ) (uniq : Option (List ℕ)) → MayStep (with_host w number n l src uniq)
+      enters n l src uniq =
+          at_good n (with_host w number n l src uniq) (entering w number n l src uniq (with_host w number n l src uniq) refl)
+          (entered_hosts l.access (lac_apart w goods n l) l.node.end src uniq
+          (step l.node.end l.node.clock (block_of n number) (event.Admitted src)))
 
 module _ (laws : CallLaws) (w : World) (number : ℕ) (kept : EndsAreKept w) (holds : NodesHold w) (goods : AreGood w) where
   line_good : (x : Lined) (l : Line) → FitsLine l → line w number l ≡ Ok x → AreGood x.world
@@ -426,7 +501,7 @@ module _ (laws : CallLaws) (w : World) (number : ℕ) (kept : EndsAreKept w) (ho
           (λ q e. (let same : k.node ≡ q = cc in subst (λ (z : Node). IsGood z × AreKept z.end) same (there_good laws w number kept goods n k.node k.there))) steps
   line_good x (Tick n milliseconds) f h =
       stepped_good laws w number kept goods x n event.Tick None (later milliseconds (declared (at w.nodes n)))
-      (λ node e. at_good laws w number kept goods n node (at_moment w n node (is_later w n milliseconds node e))) h
+      (λ node e. timed_good laws w number kept goods n node (is_later w n milliseconds node e)) h
   line_good x (Crash n) f h = by (declared (at w.nodes n)) h
     where
       by : (o : Result Node Why) → crashed w number n o ≡ Ok x → AreGood x.world
@@ -435,7 +510,11 @@ module _ (laws : CallLaws) (w : World) (number : ℕ) (kept : EndsAreKept w) (ho
           let down = fallen (block_of n number) node.end node node.checkpoint in
           let e : quiet_line (without_held (with_node w n down) n) ≡ x = cc in
           subst (λ (l : Lined). AreGood l.world) e (put_good w n down goods
-          (record { fine = bare_fine node.end.role node.end.config node.checkpoint.book; real = none_real }))
+          (record {
+            fine = bare_fine node.end.role node.end.config node.checkpoint.book;
+            real = none_real;
+            apart = new_apart node.end.role (block_of n number);
+          }))
   line_good x (Stop n commit call keeps) f h = by (declared (at w.nodes n)) (λ node e. is_declared (at w.nodes n) node e) h
     where
       by : (o : Result Node Why) → ((node : Node) → o ≡ Ok node → at w.nodes n ≡ Some node)
@@ -446,7 +525,11 @@ module _ (laws : CallLaws) (w : World) (number : ℕ) (kept : EndsAreKept w) (ho
           let with = record node { checkpoint = with_stop (Some stop) node.checkpoint } in
           let e : quiet_line (with_node w n with) ≡ x = cc in
           let real : IsReal (Some stop) = λ s one. (let same : commit ≡ s.commit = cc in subst (λ (k : ℕ). 1 ≤ k) same f.1.0) in
-          subst (λ (l : Lined). AreGood l.world) e (put_good w n with goods (record { fine = (goods n node (is node refl)).fine; real = real }))
+          subst (λ (l : Lined). AreGood l.world) e (put_good w n with goods (record {
+            fine = (goods n node (is node refl)).fine;
+            real = real;
+            apart = (goods n node (is node refl)).apart;
+          }))
   line_good x (Start n) f h = by (down_at (at w.nodes n)) (λ node e. is_down_at (at w.nodes n) node e) h
     where
       by : (o : Result Node Why) → ((node : Node) → o ≡ Ok node → (at w.nodes n ≡ Some node) × (node.up ≡ false)) → started w number n o ≡ Ok x → AreGood x.world
@@ -455,7 +538,8 @@ module _ (laws : CallLaws) (w : World) (number : ℕ) (kept : EndsAreKept w) (ho
           let there = (is node refl).0 in
           let s = starts node.end.role node.end.config node.checkpoint.book node.clock (block_of n number) in
           commit_good laws w number kept goods n (opened (block_of n number) node) None s
-          (start_fine laws.starting node (holds n node there) node.clock (block_of n number)) (goods n node there).real x h
+          (start_fine laws.starting node (holds n node there) node.clock (block_of n number)) (goods n node there).real
+          (started_apart node.end.role (block_of n number) node.checkpoint.book) x h
 
 -- ---- runs
 
@@ -511,15 +595,7 @@ module _ (laws : CallLaws) (ends : EndsOfRuns) where
       (kept_in front first, λ n node is. laws.nodes front first n node is)))
       (λ n node h. absurd (none-some node (sym (at-none n) ∙ h)))
 
--- ---- lines that are cut off, and lines that aren't
-
-pub was_cut : (w : World) (number n : ℕ) (node : Node) (k : Checkpoint) (x : Lined) → cut_line w number n node k ≡ x → x.cut ≡ true
-unfolding cut_line
-was_cut w number n node k x is = ap (λ (l : Lined). l.cut) (sym is)
-
-pub was_whole : (w : World) (number n : ℕ) (node : Node) (sender : Option Sender) (s : Stepped) (x : Lined) → after_step w number n node sender s ≡ x → x.cut ≡ false
-unfolding after_step given
-was_whole w number n node sender s x is = ap (λ (l : Lined). l.cut) (sym is)
+-- ---- lines that aren't cut off
 
 -- of a line that isn't cut off all was committed
 pub whole_step : (P : Type 0) (w : World) (number : ℕ) (x : Lined) (n : ℕ) (ev : Event) (sender : Option Sender) (o : Result Node Why)

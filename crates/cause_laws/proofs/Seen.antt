@@ -141,3 +141,11 @@ module _ {X : Type 0} (see : Node → X)
       let base = with_node w n ended in
       let v = moved_all n s.moves base in
       ap (λ ns. option_map see (at ns n)) (shown_nodes n s.outputs v) ∙ moves_same n s.moves base n ∙ ap (λ o. option_map see o) (at_new w.nodes n ended)
+
+  -- and each other node as it was
+  pub step_same : (w : World) (number n : ℕ) (node : Node) (sender : Option Sender) (s : Stepped)
+      → Same (with_node w n (record node { end = s.end })) (after_step w number n node sender s).world
+  unfolding after_step given
+  step_same w number n node sender s k =
+      let base = with_node w n (record node { end = s.end }) in
+      ap (λ ns. option_map see (at ns k)) (shown_nodes n s.outputs (moved_all n s.moves base)) ∙ moves_same n s.moves base k

@@ -1,13 +1,13 @@
 -- That each host is answered which asks for a service or for a session (RFC 2516 sections 5.1 to 5.4), apart from the functions that read its
 -- frame and choose what is done.
-use Rattle.std.specs.Prelude.{◌-◌, take, drop, ◌≡◌, ℕ, ◌≤◌, true, false, List, [], ◌∷◌, ◌++◌, length, map, is_some, Option, Some, None, Ok}
-use Rattle.std.specs.List.{AllByRecursion, flat_map}
+use Rattle.std.specs.Prelude.{◌+◌, ◌-◌, take, drop, ◌≡◌, ℕ, ◌≤◌, true, false, List, [], ◌∷◌, ◌++◌, length, map, is_some, Option, Some, None, Ok}
+use Rattle.std.specs.List.{flat_map}
 use Rattle.id_table.specs.Ids.{at}
 use Rattle.id_source.specs.Spaces.{takes_id}
 use Rattle.wire_base.specs.declared.cause.Cause.{Cause}
-use Rattle.wire_base.specs.declared.cause.Cause.TheVariants as cause
 use Rattle.schedule_text.specs.declared.line.Line.{Line}
 use Rattle.schedule_text.specs.declared.line.Line.TheVariants.{Frame}
+use Rattle.schedule_text.specs.Grammar.{AreLines}
 use Rattle.pppoe_wire.specs.declared.frame.Pppoe.{Pppoe}
 use Rattle.pppoe_wire.specs.declared.frame.Tag.{Tag}
 use Rattle.pppoe_wire.specs.Reading.{frame_of, tags_of}
@@ -26,6 +26,7 @@ use Rattle.end_model.specs.End.{End, Stepped, step}
 use Rattle.end_model.specs.Access.{Access, is_host}
 use Rattle.world_model.specs.Texts.{Entry, Frames, Causes}
 use Rattle.world_model.specs.World.{World, Deed, Lined, block_of, line}
+use Rattle.world_model.specs.Run.{run}
 use Rattle.step_laws.specs.Answers.{causes_of}
 use Rattle.step_laws.specs.Rings.{IsRingCause}
 use Rattle.step_laws.specs.Hosts.{LacAt}
@@ -66,14 +67,17 @@ pub record HasCookie (key src : List ℕ) (tags : List Tag) : Type 0 where
 abbrev pub CameBy : List ℕ → Option (List ℕ) → ℕ × Subscriber → Type 0
 CameBy src uniq held = (held.1.mac ≡ src) × (held.1.uniq ≡ uniq)
 
--- of the hosts that a LAC holds, the first one that came by this address and Host-Uniq has this session
+-- a host that a LAC holds came by this address and Host-Uniq, and has this session
 pub record IsHeld (a : Access) (src : List ℕ) (uniq : Option (List ℕ)) (session : ℕ) : Type 0 where
   pub before : List (ℕ × Subscriber)
   pub who : Subscriber
   pub after : List (ℕ × Subscriber)
   pub held : a.held ≡ before ++ (session, who) ∷ after
   pub came : CameBy src uniq (session, who)
-  pub first : AllByRecursion (λ (h : ℕ × Subscriber). CameBy src uniq h → ⊥) before
+
+-- there is one such session at most: as a host enters that came so before, it isn't the holder of the session that it had
+abbrev pub IsHeldOnce : Access → Type 0
+IsHeldOnce a = (src : List ℕ) (uniq : Option (List ℕ)) (s t : ℕ) → IsHeld a src uniq s → IsHeld a src uniq t → s ≡ t
 
 -- the host of no live call
 abbrev pub IsNew : Access → End → List ℕ → Option (List ℕ) → Type 0
@@ -182,3 +186,19 @@ pub record HostIsAnswered (w : World) (number n : ℕ) (bytes : List ℕ) (l : L
 abbrev pub AnswersHosts : World → ℕ → Line → Type 0
 AnswersHosts w number l = (x : Lined) → line w number l ≡ Ok x → (n : ℕ) (bytes : List ℕ) → l ≡ Frame n bytes → length bytes ≤ 2048
     → (lac : LacAt w n) → HostIsAnswered w number n bytes lac x
+
+-- the host of a call is held on as long as the call lives and the LAC is up: it is held after a line if it was held before it, and the
+-- call lived then
+abbrev pub IsHeldOn : World → ℕ → Line → Type 0
+IsHeldOn w number l = (x : Lined) → line w number l ≡ Ok x → (n : ℕ) (before : LacAt w n) (after : LacAt x.world n)
+    → (src : List ℕ) (uniq : Option (List ℕ)) (session : ℕ) → IsHeld before.access src uniq session
+    → is_some (at before.node.end.calls session) ≡ true → IsHeld after.access src uniq session
+
+-- of each LAC of each run
+abbrev pub HostsOfRuns : Type 0
+HostsOfRuns = (lines : List Line) → AreLines lines → (n : ℕ) (lac : LacAt (run lines).world n) → IsHeldOnce lac.access
+
+-- at each line of each run
+abbrev pub HostsAreHeldOn : Type 0
+HostsAreHeldOn = (lines : List Line) → AreLines lines → (before after : List Line) (l : Line) → lines ≡ before ++ l ∷ after
+    → IsHeldOn (run before).world (length before + 1) l

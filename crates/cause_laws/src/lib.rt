@@ -4,6 +4,7 @@
 
 ghost use Rattle.cause_laws.specs.Answers.{AnswersOfRuns};
 ghost use Rattle.cause_laws.specs.Causes.{CausesOfRuns, NoneIsLeftInRuns, RoomInRuns, TunnelsAreFewInRuns};
+ghost use Rattle.cause_laws.specs.Hosts.{HostsAreHeldOn, HostsOfRuns};
 ghost use Rattle.book_laws.specs.Starts.{StartsAreBooked, StartsSendOnly};
 ghost use Rattle.node_laws.specs.Nodes.{EndsOfRuns, NodesOfRuns};
 ghost use Rattle.step_laws.specs.Answers.{RequestsAreAnswered};
@@ -11,6 +12,7 @@ ghost use Rattle.step_laws.specs.Causes.{CausesStand};
 ghost use Rattle.step_laws.specs.Left.{CallsAreAsked, CallsStaySound, FailedTunnelsGo, LateCallsEnd, TunnelsBeginFew, TunnelsStayFew};
 ghost use Rattle.step_laws.specs.Rings.{RingsCome};
 ghost use Rattle.step_laws.specs.Room.{StepsRefuseTruly, FullAreRefused};
+ghost use Rattle.step_laws.specs.Steps.{StepsAreChains};
 
 /// The laws that are used.
 fn laws_below()
@@ -25,6 +27,7 @@ fn laws_below()
     ensures begin_few { TunnelsBeginFew }
     ensures stay_few { TunnelsStayFew }
     ensures answers { RequestsAreAnswered }
+    ensures chains { StepsAreChains }
     ensures nodes { NodesOfRuns }
     ensures ends { EndsOfRuns }
     ensures starting { StartsAreBooked }
@@ -37,6 +40,7 @@ fn laws_below()
     step_laws::failed_tunnels_go();
     step_laws::tunnels_stay_few();
     step_laws::requests_are_answered();
+    step_laws::steps_are_chains();
     node_laws::books_are_of_ends();
     book_laws::starts_are_booked();
 }
@@ -81,9 +85,21 @@ pub fn no_call_is_left()
     laws_below();
 }
 
+/// Over every list of lines of the grammar, crashes among them, the hosts that a LAC holds and that came by one address and Host-Uniq have
+/// one session at most: as such a host enters again, it isn't the holder of the session that it had. So a PADR repeats that of one call at
+/// most. And a host that is held is held on after each line, as long as its call lives and its LAC is up.
+pub fn hosts_are_held_once()
+    ensures once { HostsOfRuns }
+    ensures on { HostsAreHeldOn }
+{
+    laws_below();
+}
+
 /// Over every list of lines of the grammar, crashes among them, each call request that a line brings to a node is answered, by one move of
-/// what the line does and no more than one, as the tables and the causes say; and so is each ring: by a call that is asked for or waits for its
-/// tunnel, or by a cause. A line whose step a stop cut off is left out.
+/// what the line does and no more than one, as the tables and the causes say; and so is each ring: by a call that is asked for or waits for
+/// its tunnel, or by a cause. The moves of the step are a chain from the end that the node has before the line to the one that it has after
+/// it, so that the move which answers puts one letter on its tunnel's channel, behind those that the tunnel gave before it. A line whose
+/// step a stop cut off is left out.
 pub fn requests_are_answered_in_runs()
     ensures { AnswersOfRuns }
 {
