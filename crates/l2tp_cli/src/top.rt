@@ -4,7 +4,7 @@ ghost use Rattle.std.specs.Prelude.{◌≡◌, map, string_bytes};
 ghost use Rattle.l2tp_cli.specs.declared.words.Asked.TheVariants as asked;
 ghost use Rattle.l2tp_cli.specs.Words.{asked_of};
 ghost use Rattle.l2tp_cli.specs.Ends.{Ends, Tells};
-ghost use Rattle.l2tp_cli.specs.Runs.{Headline, Origins};
+ghost use Rattle.l2tp_cli.specs.Runs.{Calm, Facts, Headline, Origins};
 
 use crate::answer::answer_to;
 use crate::exit::Exit;
@@ -84,10 +84,15 @@ fn command<S: Source, K: Sink>(
 /// For `replay` it reads a schedule to its end, or to where it passes a limit, runs it, and writes the report of the run.
 /// `--help` and `--version` write their texts; other words write how the program is used.
 ///
-/// What the clause `ends` says is of this call. The others speak of the run of every list of lines of the grammar, whether
-/// this text spells it or another, or none has room for it: `headline` of its answers, of its nodes and of its next line over all
-/// of them, crashes among them, and of its frames, births, sessions and channels over those without crashes and with fewer than
-/// 2^47 lines, as those of each text within the limits are; `origins` over all without crashes.
+/// What the clause `ends` says is of this call. The others speak of the run of every list of lines of the grammar, crashes among them,
+/// whether this text spells it or another, or none has room for it:
+///
+/// - `headline`, of those of fewer than 2^47 lines, as those of each text within the limits are: each PPP frame that is handed up
+///   was sent in that call by its other end; ends that agree hold the same established sessions; and every call request is
+///   answered by the tables, each refusal's cause standing;
+/// - `facts`, of what that rests on: nodes and their checkpoints, epochs and letters, marks, calls, and cells;
+/// - `origins`, of the frames and the requests of those of any length;
+/// - `calm`, of those without crashes: what control connections carry.
 pub fn replay_top<S: Source, K: Sink>(
     alloc: Global,
     words: &[String],
@@ -105,20 +110,23 @@ pub fn replay_top<S: Source, K: Sink>(
       taken_after = K.taken sink.new;
     }) }
     ensures headline { Headline }
+    ensures facts { Facts }
     ensures origins { Origins }
+    ensures calm { Calm }
 {
     schedule_text::lines_are_a_schedule();
     frame_laws::reports_tell_the_past();
     frame_laws::frames_were_sent();
     frame_laws::sent_frames_are_packets();
-    frame_laws::births_are_apart();
+    frame_laws::facts_hold();
+    frame_laws::looks_are_true();
+    frame_laws::held_frames_were_sent();
     frame_laws::moves_are_main();
     connection_laws::letters_are_carried();
     connection_laws::acks_are_true();
     connection_laws::numbers_are_read();
     request_laws::calls_are_asked_for_once();
     request_laws::requests_are_taken_once();
-    request_laws::births_are_taken_once();
     cause_laws::tunnels_have_room();
     cause_laws::no_end_has_too_many_tunnels();
     cause_laws::no_call_is_left();
@@ -131,5 +139,19 @@ pub fn replay_top<S: Source, K: Sink>(
     recovery_laws::sessions_go_once();
     recovery_laws::marks_never_fall();
     session_laws::ends_that_agree_hold_the_same();
+    run_join_laws::worlds_are_joined();
+    run_join_laws::runs_agree();
+    run_join_laws::runs_cover();
+    run_join_laws::runs_know();
+    run_join_laws::runs_hear();
+    run_join_laws::births_are_of_one_call();
+    run_join_laws::calls_know_their_mates();
+    stranger_laws::strangers_change_no_call();
+    stranger_laws::lines_leave_others_alone();
+    fact_laws::epochs_rise();
+    fact_laws::epochs_enter_anew();
+    fact_laws::marks_cover_draws();
+    fact_laws::cells_are_booked();
+    fact_laws::ids_are_drawn_once();
     command(alloc, words, source, sink)
 }
