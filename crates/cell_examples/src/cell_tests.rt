@@ -108,3 +108,88 @@ fn one_of_two_binds(rt: HostRuntime) -> Result<(), Fail> {
     assert!(rt; one != two);
     Ok(())
 }
+
+/// One thread binds a cell, another kills it.
+fn bind_and_kill<R: Threads + Sync>(
+    rt: &R,
+    cells: &Cells,
+    mut one: CellSeen,
+    mut two: CellSeen,
+) -> (Result<(), Already>, Killed)
+    requires { IsOf cells.now one × IsOf cells.now two × (9 < count_of cells.now) }
+{
+    join(
+        rt,
+        move ||
+            requires { IsOf cells.now one × (9 < count_of cells.now) }
+        { cells.bind(&mut one, 9, 1, 0x0a00_0001) },
+        move ||
+            requires { IsOf cells.now two × (9 < count_of cells.now) }
+        { cells.kill(&mut two, 9) },
+    )
+}
+
+#[test]
+fn a_bind_races_a_kill(rt: HostRuntime) -> Result<(), Fail> {
+    let (cells, mut seen) = Cells::open_cells(rt.alloc(), 16)?;
+    let one = cells.seen_again(&seen);
+    let two = cells.seen_again(&seen);
+    let (bound, killed) = bind_and_kill(&rt, &cells, one, two);
+    // the kill comes before the bind, which it leaves alone, or after it, and the cell is dead
+    assert_eq!(rt; bound, Ok(()));
+    let look = cells.lookup(&mut seen, 9);
+    if killed == Killed::Dead {
+        assert!(rt; is_dead(look));
+    } else {
+        assert_eq!(rt; killed, Killed::Unborn);
+        assert!(rt; is_bound(look) == Some((1, 0x0a00_0001)));
+        assert_eq!(rt; cells.kill(&mut seen, 9), Killed::Dead);
+    }
+    assert!(rt; is_dead(cells.lookup(&mut seen, 9)));
+    Ok(())
+}
+
+#[test]
+fn no_bind_that_races_a_kill_revives_a_cell(rt: HostRuntime) -> Result<(), Fail> {
+    let (cells, mut seen) = Cells::open_cells(rt.alloc(), 16)?;
+    assert_eq!(rt; cells.bind(&mut seen, 9, 5, 0x0a00_0007), Ok(()));
+    let one = cells.seen_again(&seen);
+    let two = cells.seen_again(&seen);
+    let (bound, killed) = bind_and_kill(&rt, &cells, one, two);
+    assert!(rt; bound.is_err());
+    assert_eq!(rt; killed, Killed::Dead);
+    assert!(rt; is_dead(cells.lookup(&mut seen, 9)));
+    Ok(())
+}
+
+/// One thread establishes a cell, another kills it.
+fn establish_and_kill<R: Threads + Sync>(
+    rt: &R,
+    cells: &Cells,
+    mut one: CellSeen,
+    mut two: CellSeen,
+) -> (bool, Killed)
+    requires { IsOf cells.now one × IsOf cells.now two × (9 < count_of cells.now) }
+{
+    join(
+        rt,
+        move ||
+            requires { IsOf cells.now one × (9 < count_of cells.now) }
+        { cells.establish(&mut one, 9).is_ok() },
+        move ||
+            requires { IsOf cells.now two × (9 < count_of cells.now) }
+        { cells.kill(&mut two, 9) },
+    )
+}
+
+#[test]
+fn no_establishment_outlives_a_kill(rt: HostRuntime) -> Result<(), Fail> {
+    let (cells, mut seen) = Cells::open_cells(rt.alloc(), 16)?;
+    assert_eq!(rt; cells.bind(&mut seen, 9, 5, 0x0a00_0007), Ok(()));
+    let one = cells.seen_again(&seen);
+    let two = cells.seen_again(&seen);
+    let (_, killed) = establish_and_kill(&rt, &cells, one, two);
+    assert_eq!(rt; killed, Killed::Dead);
+    assert!(rt; is_dead(cells.lookup(&mut seen, 9)));
+    Ok(())
+}
