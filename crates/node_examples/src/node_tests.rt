@@ -83,25 +83,25 @@ C";
 
 /// What is around a node, with nothing waiting.
 #[derive(Drop)]
-struct Surroundings {
-    link: MemoryLink,
-    ether: MemoryEther,
-    up: MemoryUplink,
-    disk: MemoryDisk,
-    clock: ManualClock,
-    sink: MemorySink,
-    log: MemorySink,
+pub(crate) struct Surroundings {
+    pub(crate) link: MemoryLink,
+    pub(crate) ether: MemoryEther,
+    pub(crate) up: MemoryUplink,
+    pub(crate) disk: MemoryDisk,
+    pub(crate) clock: ManualClock,
+    pub(crate) sink: MemorySink,
+    pub(crate) log: MemorySink,
 }
 
 // Functions without clauses: a test that calls them is proved at little cost.
 
 /// Which calls fail, counted from 1: of the link, the Ethernet port, the uplink, the disk and the sink. 0 is none.
-type Failing = (u64, u64, u64, u64, u64);
+pub(crate) type Failing = (u64, u64, u64, u64, u64);
 
 const NONE: Failing = (0, 0, 0, 0, 0);
 
 /// That this call of a port fails, as far as there is memory to say so.
-fn fails_at(alloc: Global, call: u64) -> PortFails {
+pub(crate) fn fails_at(alloc: Global, call: u64) -> PortFails {
     match PortFails::from_slice(alloc, &[call]) {
         Ok(fails) => fails,
         Err(_) => PortFails::new(alloc),
@@ -123,7 +123,7 @@ fn clock(alloc: Global) -> ManualClock {
 }
 
 /// All that is around a node with this disk.
-fn around_disk(alloc: Global, disk: MemoryDisk, failing: Failing) -> Surroundings {
+pub(crate) fn around_disk(alloc: Global, disk: MemoryDisk, failing: Failing) -> Surroundings {
     let (link, ether, up, _, sink) = failing;
     Surroundings {
         link: MemoryLink::new(alloc, Datagrams::new(alloc), fails_at(alloc, link)),
@@ -177,7 +177,12 @@ fn run(alloc: Global, words: &[String], around: &mut Surroundings) -> NodeExit {
 }
 
 /// Runs the node of a line with these words behind it.
-fn run_line(alloc: Global, line: &str, more: &str, around: &mut Surroundings) -> NodeExit {
+pub(crate) fn run_line(
+    alloc: Global,
+    line: &str,
+    more: &str,
+    around: &mut Surroundings,
+) -> NodeExit {
     let words = words_of(alloc, line, more);
     run(alloc, words.as_slice(), around)
 }
