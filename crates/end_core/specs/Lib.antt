@@ -1,3 +1,4 @@
+pub mod Apart
 pub mod Cores
 pub mod Fits
 pub mod Gives

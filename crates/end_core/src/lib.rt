@@ -6,6 +6,7 @@
 #![tactic(auto)]
 
 mod addressing;
+mod apart;
 mod declining;
 mod end;
 mod frames;
@@ -16,6 +17,7 @@ mod rows;
 mod starting;
 mod ticks;
 
+pub use apart::EndParts;
 pub use end::{End, Given};
 pub use rows::{CallRow, CallTable, EndRows, TunnelRow};
-pub use tunnel_table::{CallRows, Moves, Outputs, Rows, TunnelCore};
+pub use tunnel_table::{CallRows, Cores, Moves, Outputs, Rows, TunnelCore};

@@ -18,13 +18,15 @@ ghost use Rattle.end_core.specs.Sessions.{subscriber_at};
 ghost use Rattle.lac_core.specs.Gives.{GivesServed, GivesStart, CommitsServed, starts_with};
 
 mod answers;
+mod apart;
 mod ends;
 mod hosts;
 mod kept;
 
+pub use crate::apart::LacAccess;
 use crate::kept::keep_hosts;
 use end_core::EndRows;
-pub use end_core::{End, Given, Moves, Outputs, TunnelCore};
+pub use end_core::{Cores, End, EndParts, Given, Moves, Outputs, TunnelCore};
 use end_model::{Config, Event, Out, Role, mac_of};
 use pppoe_discovery::padt_frame;
 use pppoe_session::Table;

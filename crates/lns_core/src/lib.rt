@@ -11,6 +11,9 @@ ghost use Rattle.end_core.specs.Fits.{fits};
 ghost use Rattle.end_core.specs.Gives.{GivesStep, CommitsStep};
 ghost use Rattle.end_core.specs.Rows.{tunnel_rows};
 
+mod apart;
+
+pub use end_core::EndParts;
 use end_core::{End, EndRows, Given};
 use end_model::{Config, Event, Role};
 use session_book::Book;

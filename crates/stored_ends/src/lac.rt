@@ -93,6 +93,15 @@ impl StoredLac {
         stops_of(self.lac.start(&mut ledger, moment, block, key))
     }
 
+    /// The LAC and its store, each by itself.
+    pub fn into_parts(self) -> (Lac, Store)
+        ensures lac { result.0 ≡ self.lac }
+        ensures store { result.1 ≡ self.store }
+    {
+        let StoredLac { lac, store } = self;
+        (lac, store)
+    }
+
     /// The LAC, with its tunnels and its hosts.
     pub fn lac(&self) -> &Lac
         ensures { result.now ≡ self.now.lac }

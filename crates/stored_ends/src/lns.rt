@@ -92,6 +92,15 @@ impl StoredLns {
         stops_of(self.lns.start(&mut ledger, moment, block))
     }
 
+    /// The LNS and its store, each by itself.
+    pub fn into_parts(self) -> (Lns, Store)
+        ensures lns { result.0 ≡ self.lns }
+        ensures store { result.1 ≡ self.store }
+    {
+        let StoredLns { lns, store } = self;
+        (lns, store)
+    }
+
     /// The LNS, with its tunnels.
     pub fn lns(&self) -> &Lns
         ensures { result.now ≡ self.now.lns }

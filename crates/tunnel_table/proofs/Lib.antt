@@ -1,3 +1,4 @@
 pub mod Listing
 pub mod Made
 mod Waiting
+mod Taking

@@ -5,10 +5,12 @@
 //! memory.
 #![tactic(auto)]
 
+mod apart;
 mod finding;
 mod indexes;
 mod labels;
 mod table;
 
+pub use apart::Cores;
 pub use table::TunnelTable;
 pub use tunnel_core::{CallRows, Env, Moves, Outputs, Planned, Rows, Task, TunnelCore};

@@ -111,6 +111,14 @@ impl TunnelTable {
         }
     }
 
+    /// The tunnels by local id, without the indexes.
+    pub(crate) fn into_table(self) -> Table<TunnelCore>
+        ensures { result ≡ self }
+    {
+        let TunnelTable { table, .. } = self;
+        table
+    }
+
     /// How many tunnels there are.
     pub fn len(&self) -> usize
         ensures { result ≡ length self.now.entries }
