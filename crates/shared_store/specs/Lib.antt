@@ -1,0 +1,4 @@
+pub mod Settled
+pub mod Settling
+pub mod Shared
+pub mod Stops
