@@ -1,0 +1,111 @@
+ghost use Rattle.std.specs.Prelude.{◌≡◌};
+ghost use Rattle.session_cells.specs.Tokens.{IsOf, count_of};
+
+use crate::MemoryHub;
+use end_model::{Config, Event, Role};
+use l2tp_datagram::Datagram;
+use locked_tunnels::{KeptTunnel, tunnel_turn};
+use session_cells::{CellSeen, Cells};
+use session_looks::{CellChanges, Look};
+use std::alloc::Global;
+use std::test::Fail;
+use step_hub::StepError;
+use tunnel_core::TunnelCore;
+use wire_base::{Bytes, NoMemory};
+
+/// The LAC 9 at 10.0.0.9.
+const PEER: u32 = 0x0a00_0009;
+
+/// An SCCRQ, an SCCCN, an ICRQ with the session id 513, and an ICCN.
+const SCCRQ: &str =
+    "c8020040000000000000000080080000000000018008000000020100800a0000000300000001800a0000000769737039800800000009123480080000000a0010";
+
+const SCCCN: &str = "c802001400010000000100018008000000000003";
+
+const ICRQ: &str = "c80200260001000000020001800800000000000a80080000000e0201800a0000000f00000001";
+
+const ICCN: &str =
+    "c80200280001000100030002800800000000000c800a000000180000fa00800a0000001300000002";
+
+/// A datagram with these hex digits from a peer.
+fn from_peer(alloc: Global, peer: u32, digits: &str) -> Result<Event, NoMemory> {
+    let Ok(bytes) = hex::decode(alloc, digits) else {
+        return Err(NoMemory);
+    };
+    let bytes = Bytes::from_slice(alloc, bytes.as_slice())?;
+    Ok(Event::Datagram {
+        peer,
+        datagram: Datagram::read(alloc, bytes),
+    })
+}
+
+/// The LNS 7 at 10.0.0.7.
+fn lns() -> Config {
+    Config::new(7, 0x0a00_0007, 0, None, false)
+}
+
+/// A message of the LAC comes to the tunnel: whether its turn is made, is told its moment, and gives something.
+fn hears(
+    alloc: Global,
+    kept: &mut KeptTunnel,
+    cells: &Cells,
+    seen: &mut CellSeen,
+    hub: &mut MemoryHub,
+    digits: &str,
+) -> Result<bool, NoMemory>
+    requires { (count_of cells.now ≡ 65536) × IsOf cells.now seen.old }
+    ensures { IsOf cells.now seen.new }
+{
+    let event = from_peer(alloc, PEER, digits)?;
+    if kept.is_gone() {
+        return Ok(false);
+    }
+    match tunnel_turn(kept, cells, seen, hub, 10, [7; 16], &event) {
+        Ok(turned) => Ok(turned.moment() == 10 && turned.outputs().len() > 0),
+        Err(_) => Ok(false),
+    }
+}
+
+#[test]
+fn a_tunnel_comes_up_with_a_call(rt: HostRuntime) -> Result<(), Fail> {
+    let alloc = rt.alloc();
+    let (cells, mut seen) = Cells::open_cells(alloc, 65_536)?;
+    let mut hub = MemoryHub::new(alloc, lns(), false);
+    let core = TunnelCore::idle(alloc, PEER, 0);
+    let mut kept = KeptTunnel::new(alloc, Role::Lns, core, CellChanges::new(alloc));
+    assert!(rt; hears(alloc, &mut kept, &cells, &mut seen, &mut hub, SCCRQ)?);
+    assert!(rt; hears(alloc, &mut kept, &cells, &mut seen, &mut hub, SCCCN)?);
+    assert!(rt; hears(alloc, &mut kept, &cells, &mut seen, &mut hub, ICRQ)?);
+    assert!(rt; hears(alloc, &mut kept, &cells, &mut seen, &mut hub, ICCN)?);
+    assert_eq!(rt; kept.core().control().local, 1);
+    assert_eq!(rt; kept.core().control().remote, 0x1234);
+    assert!(rt;
+        matches!(
+            cells.lookup(&mut seen, 1),
+            Look::Bound {
+                tunnel: 1,
+                peer: PEER
+            }
+        )
+    );
+    // two ceilings, the tunnel and the call
+    assert_eq!(rt; hub.records(), 4);
+    Ok(())
+}
+
+#[test]
+fn a_turn_that_the_store_refuses_leaves_all_as_it_was(rt: HostRuntime) -> Result<(), Fail> {
+    let alloc = rt.alloc();
+    let (cells, mut seen) = Cells::open_cells(alloc, 65_536)?;
+    let mut hub = MemoryHub::new(alloc, lns(), true);
+    let core = TunnelCore::idle(alloc, PEER, 0);
+    let mut kept = KeptTunnel::new(alloc, Role::Lns, core, CellChanges::new(alloc));
+    let event = from_peer(alloc, PEER, SCCRQ)?;
+    let first = tunnel_turn(&mut kept, &cells, &mut seen, &mut hub, 10, [7; 16], &event);
+    assert!(rt; matches!(first, Err(StepError::StoreFault)));
+    assert_eq!(rt; kept.core().control().local, 0);
+    let second = tunnel_turn(&mut kept, &cells, &mut seen, &mut hub, 20, [7; 16], &event);
+    assert!(rt; matches!(second, Err(StepError::Halted)));
+    assert_eq!(rt; hub.records(), 0);
+    Ok(())
+}

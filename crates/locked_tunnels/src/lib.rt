@@ -1,0 +1,12 @@
+//! Tunnels of an end that are changed one by one, each behind a lock of its own.
+//!
+//! A turn of a tunnel is its step as an end makes it: planned in what the hub lends, settled in the hub, and then made on the tunnel and
+//! on the cells of its sessions. What a turn was told and gave stands in a value that nothing else makes.
+#![tactic(auto)]
+
+mod events;
+mod kept;
+mod turned;
+
+pub use kept::KeptTunnel;
+pub use turned::{Turned, tunnel_turn};
