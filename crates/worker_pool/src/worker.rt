@@ -1,0 +1,71 @@
+//! What a worker does.
+
+ghost use Rattle.std.specs.Prelude.{◌≡◌};
+ghost use Rattle.session_workers.specs.Passes.{items_of, finished_of, taken_of, gave_of, got_of};
+ghost use Rattle.worker_pool.specs.Pools.{IsMember, HasParts, TookOne};
+
+use crate::pass::PoolPass;
+use crate::pool::Pool;
+use crate::work::{hand_over, work_one};
+use session_workers::{Finished, Gate, Worked};
+use std::sync::Wait;
+
+/// Looks once more, as one that has entered, and sleeps where it found nothing and the pool isn't closed. Then an item may wait again.
+fn rest<W: Wait, G: Gate>(rt: &W, pool: &Pool, pass: &mut PoolPass, gate: &G) -> Option<Finished>
+    requires { IsMember pool.now pass.old }
+    ensures of { IsMember pool.now pass.new }
+    ensures same { (finished_of pass.new.pass ≡ finished_of pass.old.pass) × HasParts pass.old pass.new }
+    ensures took { TookOne pass.old pass.new result }
+{
+    pool.bell.enter();
+    let rung = pool.bell.rung();
+    let closed = pool.is_closed();
+    let finished = match work_one(rt, pool, pass, gate) {
+        Worked::Done(finished) => Some(finished),
+        Worked::Empty => None,
+    };
+    if finished.is_none() && !closed {
+        pool.bell.sleep(rt, rung);
+    }
+    pool.bell.leave();
+    finished
+}
+
+/// Works the next item, for which it waits. Nothing comes where the pool is closed and no item waits.
+fn next<W: Wait, G: Gate>(rt: &W, pool: &Pool, pass: &mut PoolPass, gate: &G) -> Option<Finished>
+    requires { IsMember pool.now pass.old }
+    ensures of { IsMember pool.now pass.new }
+    ensures same { (finished_of pass.new.pass ≡ finished_of pass.old.pass) × HasParts pass.old pass.new }
+    ensures took { TookOne pass.old pass.new result }
+{
+    for _ in rt.forever() {
+        let closed = pool.is_closed();
+        if let Worked::Done(finished) = work_one(rt, pool, pass, gate) {
+            return Some(finished);
+        }
+        if closed {
+            return None;
+        }
+        if let Some(finished) = rest(rt, pool, pass, gate) {
+            return Some(finished);
+        }
+    }
+    unreachable!()
+}
+
+/// Works items and hands each over, until the pool is closed and none waits.
+pub(crate) fn work_on<W: Wait, G: Gate>(rt: &W, pool: &Pool, pass: &mut PoolPass, gate: &G)
+    requires of { IsMember pool.now pass.old }
+    requires even { gave_of pass.old.pass ≡ taken_of pass.old.pass }
+    ensures of { IsMember pool.now pass.new }
+    ensures same { (got_of pass.new.pass ≡ got_of pass.old.pass) × HasParts pass.old pass.new }
+    ensures even { gave_of pass.new.pass ≡ taken_of pass.new.pass }
+{
+    for _ in rt.forever() {
+        match next(rt, pool, pass, gate) {
+            Some(finished) => hand_over(rt, pool, pass, finished),
+            None => return,
+        }
+    }
+    unreachable!()
+}
