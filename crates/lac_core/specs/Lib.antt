@@ -1,3 +1,4 @@
 pub mod Cores
 pub mod Gives
 pub mod Entering
+pub mod Strangers

@@ -16,6 +16,7 @@ ghost use Rattle.end_core.specs.Fits.{fits};
 ghost use Rattle.end_core.specs.Rows.{tunnel_rows};
 ghost use Rattle.end_core.specs.Sessions.{subscriber_at};
 ghost use Rattle.lac_core.specs.Gives.{GivesServed, GivesStart, CommitsServed, starts_with};
+ghost use Rattle.lac_core.specs.Strangers.{KeepsFromStrangers};
 
 mod answers;
 mod apart;
@@ -253,18 +254,9 @@ impl Lac {
         })
     }
 
-    /// A step of the LAC on an event, at a moment in milliseconds, with a block of random bytes.
-    ///
-    /// A frame has an Ethernet header and no check sequence, and at most 2,048 bytes. A PADI is answered by a PADO, and a PADR by
-    /// a PADS (RFC 2516 sections 5.1 to 5.4): one with a cookie of the LAC's rings as a port does, and one that repeats the PADR
-    /// of a live call gets the session of that call again. A frame of a session is for its call, and a PADT ends it, where the
-    /// source is the host that got it; else it is dropped with `call` or `address`.
-    ///
-    /// What a datagram hides by the LAC's secret is uncovered first (RFC 2661 section 4.3). An event of an LNS is dropped with
-    /// `node`, as is that a host was admitted, and one of a call or a tunnel that isn't live with `call` or `tunnel`. Where
-    /// memory is wanting, the LAC is as before.
+    /// A step on an event: a frame is read first, and what else comes is for the end.
     #[tactic(auto, unfolding(end_model::specs::Access::serves))]
-    pub fn step<L: Ledger>(
+    fn serve<L: Ledger>(
         &mut self,
         ledger: &mut L,
         moment: u64,
@@ -280,5 +272,34 @@ impl Lac {
             Event::Admitted { .. } => self.ignore(ledger, Why::Node),
             _ => self.run(ledger, moment, block, event),
         }
+    }
+
+    /// A step of the LAC on an event, at a moment in milliseconds, with a block of random bytes.
+    ///
+    /// A frame has an Ethernet header and no check sequence, and at most 2,048 bytes. A PADI is answered by a PADO, and a PADR by
+    /// a PADS (RFC 2516 sections 5.1 to 5.4): one with a cookie of the LAC's rings as a port does, and one that repeats the PADR
+    /// of a live call gets the session of that call again. A frame of a session is for its call, and a PADT ends it, where the
+    /// source is the host that got it; else it is dropped with `call` or `address`.
+    ///
+    /// What a datagram hides by the LAC's secret is uncovered first (RFC 2661 section 4.3). An event of an LNS is dropped with
+    /// `node`, as is that a host was admitted, and one of a call or a tunnel that isn't live with `call` or `tunnel`. Where
+    /// memory is wanting, the LAC is as before.
+    ///
+    /// A datagram of a stranger, whose address is that of no live tunnel's peer, leaves each tunnel and each call as it is, here and in
+    /// what is committed, and so the hosts. It adds one tunnel at most, which waits for an SCCCN, and has one packet at most sent, to
+    /// that address.
+    pub fn step<L: Ledger>(
+        &mut self,
+        ledger: &mut L,
+        moment: u64,
+        block: [u8; 16],
+        event: &Event,
+    ) -> Result<LacGiven, StepFault<L::Stop>>
+        requires { L.can_commit ledger.old }
+        ensures given { GivesServed result (serves self.old moment block event.now) self.old self.new }
+        ensures committed { CommitsServed L.commits_to result (serves self.old moment block event.now) self.old ledger.old ledger.new }
+        ensures strangers { KeepsFromStrangers result event.now self.old self.new }
+    {
+        self.serve(ledger, moment, block, event)
     }
 }

@@ -10,6 +10,7 @@ ghost use Rattle.end_model.specs.Starting.{bare_end, starts};
 ghost use Rattle.end_core.specs.Fits.{fits};
 ghost use Rattle.end_core.specs.Gives.{GivesStep, CommitsStep};
 ghost use Rattle.end_core.specs.Rows.{tunnel_rows};
+ghost use Rattle.lns_core.specs.Strangers.{KeepsFromStrangers};
 
 mod apart;
 
@@ -144,11 +145,8 @@ impl Lns {
         }
     }
 
-    /// A step of the LNS on an event, at a moment in milliseconds, with a block of random bytes. What a datagram hides by the
-    /// LNS's secret is uncovered first (RFC 2661 section 4.3). An event of a LAC is dropped with `node`, and one of a call or a
-    /// tunnel that isn't live with `call` or `tunnel`. What the step leaves is committed to the ledger before it is made. Where it
-    /// isn't, or memory is wanting, the LNS is as before.
-    pub fn step<L: Ledger>(
+    /// A step on an event: what a datagram hides by the LNS's secret is uncovered first.
+    fn run<L: Ledger>(
         &mut self,
         ledger: &mut L,
         moment: u64,
@@ -163,5 +161,27 @@ impl Lns {
             None => self.plain_step(ledger, moment, block, event),
             Some(plain) => self.plain_step(ledger, moment, block, &plain),
         }
+    }
+
+    /// A step of the LNS on an event, at a moment in milliseconds, with a block of random bytes. What a datagram hides by the
+    /// LNS's secret is uncovered first (RFC 2661 section 4.3). An event of a LAC is dropped with `node`, and one of a call or a
+    /// tunnel that isn't live with `call` or `tunnel`. What the step leaves is committed to the ledger before it is made. Where it
+    /// isn't, or memory is wanting, the LNS is as before.
+    ///
+    /// A datagram of a stranger, whose address is that of no live tunnel's peer, leaves each tunnel and each call as it is, here and in
+    /// what is committed. It adds one tunnel at most, which waits for an SCCCN, and has one packet at most sent, to that address.
+    pub fn step<L: Ledger>(
+        &mut self,
+        ledger: &mut L,
+        moment: u64,
+        block: [u8; 16],
+        event: &Event,
+    ) -> Result<Given, StepFault<L::Stop>>
+        requires { L.can_commit ledger.old }
+        ensures given { GivesStep result (step self.old moment block event.now) self.old self.new }
+        ensures committed { CommitsStep L.commits_to result (step self.old moment block event.now) self.old ledger.old ledger.new }
+        ensures strangers { KeepsFromStrangers result event.now self.old self.new }
+    {
+        self.run(ledger, moment, block, event)
     }
 }

@@ -7,7 +7,7 @@ use Rattle.session_book.specs.declared.record.Record.TheVariants.{Ceiling, Tunne
 use Rattle.session_book.specs.Books.{Kept, raised, fits, stepped as with_record}
 use Rattle.world_model.specs.declared.stop.StopAt.{StopAt}
 use Rattle.world_model.specs.World.{Checkpoint, Committed, IsFull, IsCut, IsWhole, recorded, recorded_all, is_full, with_stop, kept_by, commits_by, commits}
-use Rattle.stranger_laws.specs.Strangers.{IsOfTunnelIds}
+use Rattle.stranger_steps.specs.Strangers.{IsOfTunnelIds}
 use Rattle.stranger_laws.specs.Lines.{HasAllOf}
 
 pub all_of_itself : (k : Kept) → HasAllOf k k

@@ -29,7 +29,7 @@ use Rattle.node_laws.proofs.Nodes.{whole_book}
 use Rattle.recovery_laws.proofs.Alike.{stepped_like}
 use Rattle.stranger_laws.specs.Lines.{Brings}
 use Rattle.stranger_laws.specs.Others.{IsSame, DatagramsLeaveOthersAlone, IsSameInBook, KeepsTunnel, LeavesOthersAlone, LinesLeaveOthersAlone}
-use Rattle.stranger_laws.proofs.Turns.{branch}
+use Rattle.stranger_steps.proofs.Turns.{branch}
 
 -- ---- books
 

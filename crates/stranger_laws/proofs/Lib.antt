@@ -1,7 +1,4 @@
-mod Turns
-mod Reading
 mod Passing
-mod Strangers
 mod Committing
 mod Lines
 mod Silent

@@ -24,12 +24,12 @@ use Rattle.world_model.specs.declared.packet.Packet.{Packet}
 use Rattle.world_model.specs.declared.refusal.Refusal.{Refusal}
 use Rattle.world_model.specs.World.{World, Node, Checkpoint, Sender, Deed, Lined, Committed, IsFull, IsCut, IsWhole, with_node, deed_of, block_of, epoch_sent, packet_from, moved, moved_all, sent, shown, entry_of, shown_all, entries_of, given, after_step, commits, fallen, cut_line, settled, committed, declared, stepped, sender_of, refused_by, addressee_of, arrival, arrives, delivers_it, delivers, dropped_line, held_or_dropped, loads_by, loads_it, loads, line}
 use Rattle.world_model.specs.Run.{run}
-use Rattle.step_laws.specs.Looks.{LooksAreTrue}
 use Rattle.node_laws.specs.Nodes.{EndsOfRuns}
-use Rattle.stranger_laws.specs.Strangers.{IsStranger, AsItWas, IsOnlyTo, sends_in, IsOfOpening, ChangesNothing, StrangersChangeNothing}
+use Rattle.stranger_steps.specs.Strangers.{LooksFitTunnels, IsStranger, AsItWas, IsOnlyTo, sends_in, IsOfOpening, ChangesNothing, StrangersChangeNothing}
+use Rattle.stranger_laws.specs.Looks.{TrueLooksFit}
 use Rattle.stranger_laws.specs.Lines.{Brings, HasAllOf, NodeLeft, Stays, Stops, GoesBack, TellsOnly, ChangesNoCall, StrangersChangeNoCall, AddressesAreOfNodes}
-use Rattle.stranger_laws.proofs.Turns.{branch}
-use Rattle.stranger_laws.proofs.Strangers.{by_opening, none_upward}
+use Rattle.stranger_steps.proofs.Turns.{branch}
+use Rattle.stranger_steps.proofs.Strangers.{by_opening, none_upward}
 use Rattle.stranger_laws.proofs.Committing.{all_of_itself, HasAll, committed_has}
 
 -- ---- moves and outputs of such a step in a world
@@ -191,7 +191,7 @@ module _ (w : World) (number n : ℕ) (node : Node) (there : at w.nodes n ≡ So
 
   -- ---- a packet that is delivered
 
-  module _ (steps : StrangersChangeNothing) (looks : LooksAreTrue node.end) (stranger : IsStranger node.end peer) where
+  module _ (steps : StrangersChangeNothing) (looks : LooksFitTunnels node.end) (stranger : IsStranger node.end peer) where
     arrived_right : (p : Packet) → p.to ≡ n → address_of p.from ≡ peer → (o : Option Refusal) → Fits (arrives w number p node o)
     unfolding arrives stepped
     arrived_right p to from (Some r) = tt
@@ -200,7 +200,7 @@ module _ (w : World) (number n : ℕ) (node : Node) (there : at w.nodes n ≡ So
         (committed_right (sender_of p.from p.origin)
         (step node.end node.clock (block_of n number) (event.Datagram (address_of p.from) p.bytes))
         (subst (λ q. ChangesNothing node.end peer (step node.end node.clock (block_of n number) (event.Datagram q p.bytes))) (sym from)
-        (steps node.end looks peer stranger node.clock (block_of n number) p.bytes)))
+        (steps node.end node.clock (block_of n number) (event.Datagram peer p.bytes) peer p.bytes refl looks stranger)))
 
     delivered_right : (p : Packet) → p.to ≡ n → address_of p.from ≡ peer → Fits (delivers w number (Some p))
     unfolding delivers delivers_it arrival addressee_of
@@ -260,12 +260,12 @@ module _ (w : World) (number n : ℕ) (node : Node) (there : at w.nodes n ≡ So
 
 -- ---- after every list of lines
 
-pub strangers_change_no_call : EndsOfRuns → StrangersChangeNothing → StrangersChangeNoCall
-strangers_change_no_call ends steps lines fits number l x h packet n brings node there stranger =
+pub strangers_change_no_call : EndsOfRuns → TrueLooksFit → StrangersChangeNothing → StrangersChangeNoCall
+strangers_change_no_call ends fit steps lines fits number l x h packet n brings node there stranger =
     let w = (run lines).world in
     let peer = address_of packet.from in
     subst (Fits w number n node there peer) h
-    (brought_right w number n node there peer steps (ends lines fits n node there).1 stranger l packet brings refl)
+    (brought_right w number n node there peer steps (fit node.end (ends lines fits n node there).1) stranger l packet brings refl)
 
 pub addresses_are_of_nodes : AddressesAreOfNodes
 unfolding node_of address_of

@@ -42,10 +42,12 @@ use Rattle.step_laws.specs.Looks.{LooksStayTrue}
 use Rattle.step_laws.specs.Steps.{AreKept, StepsAreChains}
 use Rattle.end_model.specs.End.{End, Stepped, env_of, gives_only, tunnels_after, after_turn, after_new, in_new, in_main, in_recovery, is_known, known_as, opened_before, recovered_by, is_answered, answered_to, answered_before, stopped_at, opens_once, at_line, at_recovery, addressed, against_body, next_of_peer, declined, opens_or_declines, is_recoverable, is_tied, freezes, recovers_tunnel, recovers_by, recovers, for_addressee, look_in, then_heard, handed, hands_up, receives, step_in, plain_step}
 use Rattle.stranger_laws.specs.Others.{IsSame, DatagramsLeaveOthersAlone, Arrival, after_all, IsOfAnother, TunnelsOutlastStrangers}
-use Rattle.stranger_laws.proofs.Reading.{found_passes, NamesNone, zero_none}
-use Rattle.stranger_laws.proofs.Passing.{upward_goes, none_at, GoesTo}
+use Rattle.stranger_steps.proofs.Reading.{found_passes, NamesNone, zero_none}
+use Rattle.stranger_steps.specs.Strangers.{GoesTo}
+use Rattle.stranger_steps.proofs.Passing.{upward_goes, none_at}
+use Rattle.stranger_laws.proofs.Passing.{true_looks_fit}
 use Rattle.stranger_laws.proofs.Silent.{none_up}
-use Rattle.stranger_laws.proofs.Turns.{branch, and_left, and_right, Comes, heard_comes}
+use Rattle.stranger_steps.proofs.Turns.{branch, and_left, and_right, Comes, heard_comes}
 
 -- ---- the tunnels of a step
 
@@ -117,7 +119,7 @@ module _ (e : End) (looks : LooksAreTrue e) (peer : ℕ) where
     begun_right t (inr h, once) =
         branch Right (t.control.local == 0) _ _
         (λ none. same_right (record { end = e; outputs = t.outputs; moves = t.moves }) refl)
-        (λ some. new_right t.control.local (none_at e looks t.control.local (h.1 ∙ ap (λ k. Ok k) (sym h.2.local))) t)
+        (λ some. new_right t.control.local (none_at e (true_looks_fit e looks) t.control.local (h.1 ∙ ap (λ k. Ok k) (sym h.2.local))) t)
 
     opens_right : (bytes : List ℕ) (remote nr : ℕ) (o : Option Reason)
         → Right (opens_or_declines e env (Datagram peer bytes) peer remote nr o)
@@ -294,7 +296,7 @@ module _ (e : End) (looks : LooksAreTrue e) (peer : ℕ) where
     unfolding handed
     handed_right h frame (Dropped w) is = dropped w
     handed_right h frame (Upward tunnel to side f) is =
-        then_right tunnel h.session f (upward_goes e looks peer h frame tunnel to side f is) side
+        then_right tunnel h.session f (upward_goes e (true_looks_fit e looks) peer h frame tunnel to side f is) side
 
     received_right : (bytes : List ℕ) (r : Result Header HeaderError) → Right (receives e env peer bytes r)
     unfolding receives hands_up

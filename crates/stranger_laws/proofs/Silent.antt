@@ -21,7 +21,7 @@ use Rattle.step_laws.specs.Moves.{Does, Chain}
 use Rattle.step_laws.specs.Steps.{AreKept, IsOfMoves, StepsAreChains}
 use Rattle.step_laws.proofs.Steps.{look_is}
 use Rattle.stranger_laws.proofs.Passing.{passes_to}
-use Rattle.stranger_laws.proofs.Turns.{branch}
+use Rattle.stranger_steps.proofs.Turns.{branch}
 
 among_has : {X : Type 0} (P : X → Type 0) (xs : List X) (x : X) → AllByRecursion P xs → Among x xs → P x
 among_has P [] x h a = absurd a

@@ -1,3 +1,3 @@
-pub mod Strangers
+pub mod Looks
 pub mod Lines
 pub mod Others

@@ -12,7 +12,7 @@ use Rattle.world_model.specs.declared.packet.Packet.{Packet}
 use Rattle.world_model.specs.Texts.{Entry, Sends, HandsUp, Holds, Ends, Frames, Drops, Causes, Stopped}
 use Rattle.world_model.specs.World.{World, Node, Checkpoint, Deed, Lined, line}
 use Rattle.world_model.specs.Run.{run}
-use Rattle.stranger_laws.specs.Strangers.{IsStranger, Leaves, IsOfOpening}
+use Rattle.stranger_steps.specs.Strangers.{IsStranger, Leaves, IsOfOpening}
 
 -- the line brings the packet to the node: the packet is delivered, or it is loaded there as a data packet, whose frame would be held
 abbrev pub Brings : World → Line → Packet → ℕ → Type 0

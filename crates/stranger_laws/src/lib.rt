@@ -1,5 +1,5 @@
-//! What a datagram of a stranger may do: of an address that is that of no live tunnel's peer. Whoever sends under a peer's address is no
-//! stranger here, since a peer is told by its address alone.
+//! What datagrams of strangers may do in a run, and what those of one peer do to the tunnels of another: a stranger's address is that of no
+//! live tunnel's peer. Whoever sends under a peer's address is no stranger here, since a peer is told by its address alone.
 #![tactic(auto)]
 
 ghost use Rattle.book_laws.specs.Books.{CallsAreByPlace, StepsAreBooked};
@@ -8,21 +8,13 @@ ghost use Rattle.step_laws.specs.Gone.{CallsGoOnce};
 ghost use Rattle.step_laws.specs.Looks.{LooksStayTrue};
 ghost use Rattle.step_laws.specs.Steps.{StepsAreChains};
 ghost use Rattle.stranger_laws.specs.Lines.{AddressesAreOfNodes, StrangersChangeNoCall};
+ghost use Rattle.stranger_laws.specs.Looks.{TrueLooksFit};
 ghost use Rattle.stranger_laws.specs.Others.{DatagramsLeaveOthersAlone, LinesLeaveOthersAlone, TunnelsOutlastStrangers};
-ghost use Rattle.stranger_laws.specs.Strangers.{DatagramsAreOfEnds, StrangersChangeNothing};
 
-/// A step of an end on a datagram whose peer is that of none of its live tunnels, and so of no recovery either, changes nothing of what
-/// is there: each live tunnel with its calls, letters, recovery and mark is as it was, and so is what the data plane sees of the calls.
-/// No frame is handed up, and no call is told as gone. One packet at most is sent, to that peer. At most one tunnel is there more: to
-/// that peer, from which it waits for an SCCCN, without calls, under the tunnel id that was drawn, which no tunnel had. No other id is
-/// drawn, and nothing is committed but ceilings of tunnel ids. So it is of an LNS and of a LAC, which holds the hosts that it held and
-/// answers none.
-///
-/// Of the end nothing is needed but that its looks are true, as those of each end of each run are. A closed tunnel that is still kept is
-/// one of its live tunnels.
-pub fn strangers_change_nothing()
-    ensures ends { StrangersChangeNothing }
-    ensures hosts { DatagramsAreOfEnds }
+/// What the data plane sees fits an end's tunnels where the end's looks are true, as they are at first, after each step and after each
+/// start of each run. That is all that a step of an end needs, so that a datagram of a stranger changes nothing there.
+pub fn true_looks_fit()
+    ensures { TrueLooksFit }
 {}
 
 /// After every list of lines of the grammar, whatever crashed, a line that delivers a packet to a node, or loads it there, from a node
@@ -35,7 +27,8 @@ pub fn strangers_change_no_call()
     ensures lines { StrangersChangeNoCall }
     ensures addresses { AddressesAreOfNodes }
 {
-    strangers_change_nothing();
+    stranger_steps::strangers_change_nothing();
+    true_looks_fit();
     node_laws::books_are_of_ends();
 }
 

@@ -38,12 +38,11 @@ use Rattle.end_model.specs.Reading.{message_in, at_tunnel, at_zero}
 use Rattle.end_model.specs.Reasons.{Reason, out_of_order, other_version, no_recovery}
 use Rattle.end_model.specs.Secrets.{uncovered_datagram}
 use Rattle.end_model.specs.Tunnels.{Tunnel, Env, Turn}
-use Rattle.end_model.specs.End.{End, Stepped, env_of, gives_only, placed, with_looks, after_turn, after_new, in_new, is_known, known_as, opened_before, recovered_by, is_answered, answered_to, answered_before, stopped_at, opens_once, at_line, at_recovery, addressed, against_body, next_of_peer, declined, opens_or_declines, is_recoverable, recovers_tunnel, recovers_by, recovers, for_addressee, look_in, handed, hands_up, receives, step_in, plain_step}
-use Rattle.step_laws.specs.Looks.{LooksAreTrue}
-use Rattle.stranger_laws.specs.Strangers.{IsStranger, IsBegun, AsItWas, OneMore, IsOnlyTo, sends_in, IsOfOpening, IsOfTunnelIds, ChangesNothing, StrangersChangeNothing, DatagramsAreOfEnds}
-use Rattle.stranger_laws.proofs.Reading.{none_found, not_so, NamesNone, zero_none}
-use Rattle.stranger_laws.proofs.Passing.{upward_goes, none_at}
-use Rattle.stranger_laws.proofs.Turns.{branch, and_left, and_right, IsBare, one_drawn, Comes, heard_comes}
+use Rattle.end_model.specs.End.{End, Stepped, env_of, gives_only, placed, with_looks, after_turn, after_new, in_new, is_known, known_as, opened_before, recovered_by, is_answered, answered_to, answered_before, stopped_at, opens_once, at_line, at_recovery, addressed, against_body, next_of_peer, declined, opens_or_declines, is_recoverable, recovers_tunnel, recovers_by, recovers, for_addressee, look_in, handed, hands_up, receives, step_in, plain_step, step}
+use Rattle.stranger_steps.specs.Strangers.{LooksFitTunnels, IsStranger, IsBegun, AsItWas, OneMore, IsOnlyTo, sends_in, IsOfOpening, IsOfTunnelIds, ChangesNothing, StrangersChangeNothing, DatagramsAreOfEnds}
+use Rattle.stranger_steps.proofs.Reading.{none_found, not_so, NamesNone, zero_none}
+use Rattle.stranger_steps.proofs.Passing.{upward_goes, none_at}
+use Rattle.stranger_steps.proofs.Turns.{branch, and_left, and_right, IsBare, one_drawn, Comes, heard_comes}
 
 -- ---- what is committed
 
@@ -126,7 +125,7 @@ only_tunnels e s sessions recoveries of =
 
 -- ---- the step
 
-module _ (e : End) (looks : LooksAreTrue e) (peer : ℕ) (stranger : IsStranger e peer) where
+module _ (e : End) (looks : LooksFitTunnels e) (peer : ℕ) (stranger : IsStranger e peer) where
   abbrev Right : Stepped → Type 0
   Right s = ChangesNothing e peer s
 
@@ -347,8 +346,9 @@ module _ (e : End) (looks : LooksAreTrue e) (peer : ℕ) (stranger : IsStranger 
     step_right bytes = received_right bytes (header_of bytes)
 
 pub strangers_change_nothing : StrangersChangeNothing
-strangers_change_nothing e looks peer stranger moment block bytes =
-    step_right e looks peer stranger moment block (uncovered_datagram e.config.secret bytes)
+strangers_change_nothing e moment block ev peer bytes is looks stranger =
+    subst (λ v. ChangesNothing e peer (step e moment block v)) (sym is)
+    (step_right e looks peer stranger moment block (uncovered_datagram e.config.secret bytes))
 
 pub datagrams_are_of_ends : DatagramsAreOfEnds
 unfolding serves

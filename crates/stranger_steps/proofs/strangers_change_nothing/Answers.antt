@@ -1,5 +1,5 @@
-use Rattle.stranger_laws.proofs.Strangers as stranger
-use Rattle.stranger_laws.proofs.strangers_change_nothing.Goals as goal
+use Rattle.stranger_steps.proofs.Strangers as stranger
+use Rattle.stranger_steps.proofs.strangers_change_nothing.Goals as goal
 
 pub returns-clause-ends : goal.returns-clause-ends
 returns-clause-ends c = stranger.strangers_change_nothing

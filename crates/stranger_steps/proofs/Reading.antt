@@ -14,7 +14,7 @@ use Rattle.control_message.specs.Reading.{plain_short}
 use Rattle.end_model.specs.declared.event.Addressee.{Addressee}
 use Rattle.end_model.specs.declared.event.Addressee.TheVariants.{Opens, Stops, Answers, Main, Recovery, Recovers, Nobody}
 use Rattle.end_model.specs.Reading.{stopped, told_or_none, zero_faulty, zero_read, zero_pairs, at_zero, kind_said, message_said}
-use Rattle.stranger_laws.proofs.Turns.{branch}
+use Rattle.stranger_steps.proofs.Turns.{branch}
 
 -- ---- what is found in tables
 

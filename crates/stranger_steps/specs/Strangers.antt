@@ -1,11 +1,13 @@
 -- What a datagram of a stranger does to an end: of an address that is that of no live tunnel's peer.
-use Rattle.std.specs.Prelude.{◌≡◌, ℕ, suc, ◌≤◌, List, [], ◌∷◌, None, Some, Ok}
+use Rattle.std.specs.Prelude.{◌≡◌, ℕ, suc, ◌<◌, ◌≤◌, List, [], ◌∷◌, None, Some, Ok}
 use Rattle.std.specs.List.{AllByRecursion}
 use Rattle.id_table.specs.Ids.{at, put}
 use Rattle.id_source.specs.Spaces.{takes_id, after_id}
 use Rattle.session_book.specs.declared.record.Record.{Record}
 use Rattle.session_book.specs.declared.record.Record.TheVariants.{Ceiling}
+use Rattle.session_looks.specs.declared.look.Look.TheVariants.{Bound, Established}
 use Rattle.tunnel_fsm.specs.declared.table.TunnelState.TheVariants.{WaitCtlConn}
+use Rattle.end_model.specs.declared.event.Event.{Event}
 use Rattle.end_model.specs.declared.event.Event.TheVariants.{Datagram}
 use Rattle.end_model.specs.declared.moves.Move.{Move}
 use Rattle.end_model.specs.declared.moves.Move.TheVariants as move
@@ -14,13 +16,25 @@ use Rattle.end_model.specs.declared.out.Out.TheVariants.{Send, Up, Gone, Drop, C
 use Rattle.end_model.specs.Tunnels.{Tunnel, no_query}
 use Rattle.end_model.specs.Contents.{contents_of}
 use Rattle.end_model.specs.Access.{Concentrator, of_step, serves}
-use Rattle.end_model.specs.End.{End, Stepped, step}
-use Rattle.step_laws.specs.Looks.{LooksAreTrue}
+use Rattle.end_model.specs.End.{End, Stepped, look_in, step}
 
 -- no live tunnel of the end goes to this peer. The recovery tunnel of a tunnel goes to the tunnel's peer, so the peer is that of no attempt
 -- and of no answer either
 abbrev pub IsStranger : End → ℕ → Type 0
 IsStranger e peer = (i : ℕ) (t : Tunnel) → at e.tunnels i ≡ Some t → t.control.peer ≡ peer → ⊥
+
+-- a live tunnel has this id, and goes to this peer
+abbrev pub GoesTo : End → ℕ → ℕ → Type 0
+GoesTo e peer i = (t : Tunnel) × (at e.tunnels i ≡ Some t) × (t.control.peer ≡ peer)
+
+-- what the data plane sees fits the tunnels: so it is of each end whose looks are true, as laws say of one without a tunnel, of each after
+-- a step, and of each after a start
+pub record LooksFitTunnels (e : End) : Type 0 where
+  -- what is seen of a session names a live tunnel and its peer
+  pub bound : (session tunnel peer : ℕ) → look_in (at e.calls session) ≡ Bound tunnel peer → GoesTo e peer tunnel
+  pub established : (session tunnel peer : ℕ) → look_in (at e.calls session) ≡ Established tunnel peer → GoesTo e peer tunnel
+  -- the id of a live tunnel was drawn
+  pub drawn : (i : ℕ) (t : Tunnel) → at e.tunnels i ≡ Some t → i < e.tunnel_ids.next
 
 -- a tunnel that was just accepted: under this id, to this peer, from which it waits for an SCCCN
 pub record IsBegun (peer i : ℕ) (t : Tunnel) : Type 0 where
@@ -86,11 +100,15 @@ pub record ChangesNothing (e : End) (peer : ℕ) (s : Stepped) : Type 0 where
   -- nothing is committed but ceilings of tunnel ids
   pub records : AllByRecursion IsOfTunnelIds (contents_of e s)
 
--- each step of an end whose looks are true, on whichever datagram of a stranger
+-- a step on this event comes to no more than that where the event is a datagram of a stranger, whoever that is
+abbrev pub StepKeepsFromStrangers : Event → End → Stepped → Type 0
+StepKeepsFromStrangers ev e s =
+    (peer : ℕ) (bytes : List ℕ) → ev ≡ Datagram peer bytes → LooksFitTunnels e → IsStranger e peer → ChangesNothing e peer s
+
+-- so does each step of an end
 abbrev pub StrangersChangeNothing : Type 0
 StrangersChangeNothing =
-    (e : End) → LooksAreTrue e → (peer : ℕ) → IsStranger e peer → (moment : ℕ) (block bytes : List ℕ)
-    → ChangesNothing e peer (step e moment block (Datagram peer bytes))
+    (e : End) (moment : ℕ) (block : List ℕ) (ev : Event) → StepKeepsFromStrangers ev e (step e moment block ev)
 
 -- on a datagram, whoever sent it, a LAC does what its end does: the hosts that it holds stay as they were, and none is answered
 abbrev pub DatagramsAreOfEnds : Type 0

@@ -37,7 +37,7 @@ use Rattle.end_model.specs.Turn.{with_output, with_move, drops}
 use Rattle.end_model.specs.Openings.{fresh, asking, next_of, with_local, accepted, accepts_by, accepts}
 use Rattle.end_model.specs.Sending.{gives, takes_one, letter_in, sends_letter, sends_now, lets_go, goes_by, lets_all_go, acknowledges, outstanding, acknowledged_after, settles}
 use Rattle.end_model.specs.Hearing.{first_said, hears_control, hears_datagram}
-use Rattle.stranger_laws.specs.Strangers.{IsOnlyTo, sends_in, IsOfOpening}
+use Rattle.stranger_steps.specs.Strangers.{IsOnlyTo, sends_in, IsOfOpening}
 
 pub branch : {T : Type 0} (P : T → Type 0) (a : Bool) (x y : T) → (a ≡ true → P x) → (a ≡ false → P y) → P (cond a x y)
 branch P true x y p q = p refl
