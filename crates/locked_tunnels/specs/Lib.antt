@@ -1,2 +1,5 @@
 pub mod Kept
 pub mod Turns
+pub mod Directory
+pub mod Shared
+pub mod First

@@ -26,6 +26,10 @@ pub record Told : Type 0 where
   pub block : List ℕ
   pub outputs : List Out
 
+-- it was told this
+abbrev pub IsTurnOf : Event → ℕ → List ℕ → Told → Type 0
+IsTurnOf ev moment block t = (t.event ≡ ev) × (t.moment ≡ moment) × (t.block ≡ block)
+
 -- the turn of a tunnel about this, of an end that is told this and draws from these spaces
 abbrev pub task_by : Known → Config → Drawing → ℕ → List ℕ → Task → RecoveryTurn
 task_by k c ids moment block task = task_turn k.role c k.tunnel task (turn_in k.tunnel (lent_env ids moment block))

@@ -16,8 +16,12 @@ use end_model::{Config, Event, Role};
 use session_looks::{CellChange, CellChanges};
 use std::alloc::Global;
 use std::marker::Model;
+use std::mem;
 use tunnel_core::{Env, Planned, Rows, Task, TunnelCore};
-use wire_base::{NoMemory, Pairs};
+use wire_base::{NoMemory, Pairs, Sequence};
+
+/// Local session ids of calls, in the order in which they were made.
+pub(crate) type Added = Sequence<u16>;
 
 /// A tunnel of an end, with what its last turn changed in the looks.
 #[derive(Drop)]
@@ -27,6 +31,10 @@ pub struct KeptTunnel {
     core: TunnelCore,
     changes: CellChanges,
     gone: bool,
+    /// The calls that the turn made which was planned last.
+    added: Added,
+    /// How many turns of it were made, as far as 64 bits can tell.
+    turns: u64,
 }
 
 impl Model for KeptTunnel {
@@ -48,6 +56,8 @@ impl KeptTunnel {
             core,
             changes,
             gone: false,
+            added: Added::new(alloc),
+            turns: 0,
         }
     }
 
@@ -101,6 +111,23 @@ impl KeptTunnel {
         self.core.replays();
     }
 
+    /// The local session ids of the calls that its last turn made, in the order in which they were drawn.
+    pub(crate) fn added(&self) -> &[u16] {
+        self.added.as_slice()
+    }
+
+    /// The same, taken out.
+    pub(crate) fn take_added(&mut self) -> Added
+        ensures { self.new ≡ self.old }
+    {
+        mem::replace(&mut self.added, Added::new(self.alloc))
+    }
+
+    /// How many turns of it were made, as far as 64 bits can tell.
+    pub(crate) fn turns(&self) -> u64 {
+        self.turns
+    }
+
     /// Plans a turn by an event, which is uncovered for it by the end's secret. What the tunnel stands for is as before.
     pub(crate) fn plan_event(
         &mut self,
@@ -113,10 +140,14 @@ impl KeptTunnel {
         ensures room { IfOk result (λ p. HasRoomFor self.new.core p) }
         ensures given { OnOk result (env.new ≡ with_turn (recovering_turns self.old.role config.now (tunnel_of self.old.core) (uncovered_event config.now.secret event.now) (turn_in (tunnel_of self.old.core) env.old)).turn env.old) }
     {
-        match plain_event(self.alloc, config, event)? {
-            None => self.core.plan(self.role, config, env, &Task::Event(event)),
-            Some(plain) => self.core.plan(self.role, config, env, &Task::Event(&plain)),
-        }
+        let planned = match plain_event(self.alloc, config, event)? {
+            None => self.core.plan(self.role, config, env, &Task::Event(event))?,
+            Some(plain) => self
+                .core
+                .plan(self.role, config, env, &Task::Event(&plain))?,
+        };
+        self.added = Added::from_slice(self.alloc, planned.added())?;
+        Ok(planned)
     }
 
     /// Makes the planned turn, which changed this. It takes no memory.
@@ -127,5 +158,6 @@ impl KeptTunnel {
         self.gone = planned.clears();
         self.core.apply(planned);
         self.changes = changes;
+        self.turns = self.turns.saturating_add(1);
     }
 }

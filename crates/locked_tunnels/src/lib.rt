@@ -4,9 +4,17 @@
 //! on the cells of its sessions. What a turn was told and gave stands in a value that nothing else makes.
 #![tactic(auto)]
 
+mod addressing;
 mod events;
 mod kept;
+mod listing;
+mod locked;
+mod one;
+mod table;
 mod turned;
 
 pub use kept::KeptTunnel;
-pub use turned::{Turned, tunnel_turn};
+pub use locked::Locked;
+pub use one::{tick_all, turn_one};
+pub use table::{Place, Tunnels};
+pub use turned::{Turned, shared_turn, tunnel_turn};

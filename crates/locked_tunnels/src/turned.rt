@@ -14,6 +14,10 @@ ghost use Rattle.step_hub.specs.Hubs.{Settles};
 ghost use Rattle.locked_tunnels.specs.Kept.{known};
 ghost use Rattle.locked_tunnels.specs.Turns.{Told, turn_by, turned, left_by, Refuses};
 
+mod sharing;
+
+pub use sharing::shared_turn;
+
 use crate::events::copy_event;
 use crate::kept::KeptTunnel;
 use end_model::{Config, Event};

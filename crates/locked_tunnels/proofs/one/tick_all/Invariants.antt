@@ -1,0 +1,5 @@
+use Rattle.session_cells.specs.Tokens.{Later}
+use Rattle.locked_tunnels.proofs.one.tick_all.Given as goal
+
+abbrev pub invariant-loop-id : goal.invariant-loop-id
+invariant-loop-id g l = Later l.locked.cells l.fn.seen l.seen
