@@ -7,4 +7,8 @@ mod hub;
 pub use hub::MemoryHub;
 
 #[cfg(test)]
+mod messages;
+#[cfg(test)]
+mod table_tests;
+#[cfg(test)]
 mod turn_tests;

@@ -2,8 +2,8 @@ ghost use Rattle.std.specs.Prelude.{◌≡◌};
 ghost use Rattle.session_cells.specs.Tokens.{IsOf, count_of};
 
 use crate::MemoryHub;
-use end_model::{Config, Event, Role};
-use l2tp_datagram::Datagram;
+use crate::messages::{ICCN, ICRQ, SCCCN, SCCRQ, from_peer, lns};
+use end_model::Role;
 use locked_tunnels::{KeptTunnel, tunnel_turn};
 use session_cells::{CellSeen, Cells};
 use session_looks::{CellChanges, Look};
@@ -11,38 +11,10 @@ use std::alloc::Global;
 use std::test::Fail;
 use step_hub::StepError;
 use tunnel_core::TunnelCore;
-use wire_base::{Bytes, NoMemory};
+use wire_base::NoMemory;
 
 /// The LAC 9 at 10.0.0.9.
 const PEER: u32 = 0x0a00_0009;
-
-/// An SCCRQ, an SCCCN, an ICRQ with the session id 513, and an ICCN.
-const SCCRQ: &str =
-    "c8020040000000000000000080080000000000018008000000020100800a0000000300000001800a0000000769737039800800000009123480080000000a0010";
-
-const SCCCN: &str = "c802001400010000000100018008000000000003";
-
-const ICRQ: &str = "c80200260001000000020001800800000000000a80080000000e0201800a0000000f00000001";
-
-const ICCN: &str =
-    "c80200280001000100030002800800000000000c800a000000180000fa00800a0000001300000002";
-
-/// A datagram with these hex digits from a peer.
-fn from_peer(alloc: Global, peer: u32, digits: &str) -> Result<Event, NoMemory> {
-    let Ok(bytes) = hex::decode(alloc, digits) else {
-        return Err(NoMemory);
-    };
-    let bytes = Bytes::from_slice(alloc, bytes.as_slice())?;
-    Ok(Event::Datagram {
-        peer,
-        datagram: Datagram::read(alloc, bytes),
-    })
-}
-
-/// The LNS 7 at 10.0.0.7.
-fn lns() -> Config {
-    Config::new(7, 0x0a00_0007, 0, None, false)
-}
 
 /// A message of the LAC comes to the tunnel: whether its turn is made, is told its moment, and gives something.
 fn hears(

@@ -25,3 +25,8 @@ IsNarrow places = (i : ℕ) → 65536 ≤ i → at places i ≡ None
 abbrev pub relisted : Listed → ℕ → ℕ → List (ℕ × Place) → Option Place → List (ℕ × Place)
 relisted listed turns i places None = places
 relisted listed turns i places (Some p) = if nat_lt turns p.turns then places else put places i (record p { listed = listed; turns = turns })
+
+-- how it was listed before, where it is listed anew
+abbrev pub replaced : ℕ → Option Place → Option Listed
+replaced turns None = None
+replaced turns (Some p) = if nat_lt turns p.turns then None else Some p.listed

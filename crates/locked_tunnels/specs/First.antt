@@ -1,5 +1,5 @@
 -- A new tunnel's first turn, and what a turn gives that no tunnel of the table takes.
-use Rattle.std.specs.Prelude.{ℕ, List, [], Bool, false, not, ◌&&◌, ◌==◌}
+use Rattle.std.specs.Prelude.{ℕ, List, [], Bool, false, not, ◌&&◌, ◌==◌, if◌then◌else◌}
 use Rattle.end_names.specs.declared.role.Role.{Role}
 use Rattle.end_model.specs.declared.event.Event.{Event}
 use Rattle.end_model.specs.declared.out.Out.{Out}
@@ -23,6 +23,10 @@ first_known role peer moment = record { role = role; tunnel = new_tunnel (fresh 
 -- its first turn
 abbrev pub first_by : Role → Config → Drawing → ℕ → List ℕ → Event → ℕ → RecoveryTurn
 first_by role c ids moment block ev peer = turn_by (first_known role peer moment) c ids moment block ev
+
+-- where it drew no id, nothing that it drew is
+abbrev pub drawn_first : ℕ → Drawing → Drawing → Drawing
+drawn_first local before after = if local == 0 then before else after
 
 -- whether it stands in the table after what is planned for it
 abbrev pub is_to_stand : Plan → Bool

@@ -1,9 +1,11 @@
 -- What a turn of a tunnel is, what it leaves, and why one isn't made.
 use Rattle.std.specs.Prelude.{◌≡◌, ◌≢◌, ℕ, ◌<◌, List, Option, Some, None}
+use Rattle.std.specs.List.{AllByRecursion}
 use Rattle.wire_base.specs.Causes.{Rose}
 use Rattle.session_book.specs.declared.record.Record.{Record}
 use Rattle.step_records.specs.Leaving.{leaves}
 use Rattle.end_model.specs.declared.event.Event.{Event}
+use Rattle.end_model.specs.declared.event.Event.TheVariants.{Tick}
 use Rattle.end_model.specs.declared.out.Out.{Out}
 use Rattle.end_model.specs.declared.tunnel.Config.{Config}
 use Rattle.end_model.specs.Secrets.{uncovered_event}
@@ -29,6 +31,10 @@ pub record Told : Type 0 where
 -- it was told this
 abbrev pub IsTurnOf : Event → ℕ → List ℕ → Told → Type 0
 IsTurnOf ev moment block t = (t.event ≡ ev) × (t.moment ≡ moment) × (t.block ≡ block)
+
+-- each is of a tick at this moment
+abbrev pub AreTicks : ℕ → List ℕ → List Told → Type 0
+AreTicks moment block ts = AllByRecursion (λ t. IsTurnOf Tick moment block t) ts
 
 -- the turn of a tunnel about this, of an end that is told this and draws from these spaces
 abbrev pub task_by : Known → Config → Drawing → ℕ → List ℕ → Task → RecoveryTurn

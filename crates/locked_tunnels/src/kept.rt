@@ -128,6 +128,24 @@ impl KeptTunnel {
         self.turns
     }
 
+    /// Plans a turn by an event, which is uncovered for it by the end's secret.
+    fn plan_uncovered(
+        &mut self,
+        config: &Config,
+        env: &mut Env,
+        event: &Event,
+    ) -> Result<Planned, NoMemory>
+        ensures same { known self.new ≡ known self.old }
+        ensures planned { IfOk result (λ p. IsTurn p self.old.core.recovery (recovering_turns self.old.role config.now (tunnel_of self.old.core) (uncovered_event config.now.secret event.now) (turn_in (tunnel_of self.old.core) env.old))) }
+        ensures room { IfOk result (λ p. HasRoomFor self.new.core p) }
+        ensures given { OnOk result (env.new ≡ with_turn (recovering_turns self.old.role config.now (tunnel_of self.old.core) (uncovered_event config.now.secret event.now) (turn_in (tunnel_of self.old.core) env.old)).turn env.old) }
+    {
+        match plain_event(self.alloc, config, event)? {
+            None => self.core.plan(self.role, config, env, &Task::Event(event)),
+            Some(plain) => self.core.plan(self.role, config, env, &Task::Event(&plain)),
+        }
+    }
+
     /// Plans a turn by an event, which is uncovered for it by the end's secret. What the tunnel stands for is as before.
     pub(crate) fn plan_event(
         &mut self,
@@ -140,12 +158,7 @@ impl KeptTunnel {
         ensures room { IfOk result (λ p. HasRoomFor self.new.core p) }
         ensures given { OnOk result (env.new ≡ with_turn (recovering_turns self.old.role config.now (tunnel_of self.old.core) (uncovered_event config.now.secret event.now) (turn_in (tunnel_of self.old.core) env.old)).turn env.old) }
     {
-        let planned = match plain_event(self.alloc, config, event)? {
-            None => self.core.plan(self.role, config, env, &Task::Event(event))?,
-            Some(plain) => self
-                .core
-                .plan(self.role, config, env, &Task::Event(&plain))?,
-        };
+        let planned = self.plan_uncovered(config, env, event)?;
         self.added = Added::from_slice(self.alloc, planned.added())?;
         Ok(planned)
     }

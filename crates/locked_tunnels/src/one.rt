@@ -3,7 +3,7 @@
 
 ghost use Rattle.std.specs.Prelude.{◌≡◌, IfOk, IfSome};
 ghost use Rattle.session_cells.specs.Tokens.{IsOf, Later};
-ghost use Rattle.locked_tunnels.specs.Turns.{IsTurnOf};
+ghost use Rattle.locked_tunnels.specs.Turns.{IsTurnOf, AreTicks};
 
 use crate::addressing::addressed;
 use crate::events::plain_event;
@@ -16,12 +16,11 @@ use end_model::{Addressee, Config, Event, Role};
 use l2tp_datagram::Datagram;
 use session_cells::CellSeen;
 use session_looks::Look;
-use std::sync::{Arc, Mutex, MutexGuard, Wait};
+use std::sync::{Mutex, MutexGuard, Wait};
 use step_hub::{Hub, StepError};
-use tunnel_core::Outputs;
 use tunnel_fsm::TunnelState;
 use tunnel_listing::Wanted;
-use wire_base::{NoMemory, Why};
+use wire_base::{NoMemory, Sequence, Why};
 
 /// What a datagram is for, as the end reads it, where it is a control message.
 fn for_whom(table: &Tunnels, peer: u32, datagram: &Datagram) -> Result<Addressee, NoMemory> {
@@ -43,11 +42,7 @@ fn for_whom_in(table: &Tunnels, event: &Event) -> Result<Addressee, NoMemory> {
 }
 
 /// What the datagram of an event is for, whose hidden values the end's secret uncovers.
-fn for_whom_plain(
-    table: &Tunnels,
-    config: &Config,
-    event: &Event,
-) -> Result<Addressee, NoMemory> {
+fn for_whom_plain(table: &Tunnels, config: &Config, event: &Event) -> Result<Addressee, NoMemory> {
     match plain_event(table.alloc(), config, event)? {
         None => for_whom_in(table, event),
         Some(plain) => for_whom_in(table, &plain),
@@ -204,7 +199,15 @@ fn turn_at<W: Wait, H: Hub>(
         return Ok(None);
     }
     let mut hub = locked.hub.lock(rt);
-    let turned = tunnel_turn(&mut *kept, &locked.cells, seen, &mut *hub, moment, block, event)?;
+    let turned = tunnel_turn(
+        &mut *kept,
+        &locked.cells,
+        seen,
+        &mut *hub,
+        moment,
+        block,
+        event,
+    )?;
     MutexGuard::unlock(hub);
     list_again(rt, locked, id, kept);
     Ok(Some(turned))
@@ -229,7 +232,15 @@ fn try_turn<W: Wait, H: Hub>(
     match table.find(id)? {
         None => {
             let mut hub = locked.hub.lock(rt);
-            let turned = shared_turn(&mut *table, &locked.cells, seen, &mut *hub, moment, block, event)?;
+            let turned = shared_turn(
+                &mut *table,
+                &locked.cells,
+                seen,
+                &mut *hub,
+                moment,
+                block,
+                event,
+            )?;
             Ok(Some(turned))
         }
         Some(tunnel) => {
@@ -262,10 +273,18 @@ pub fn turn_one<W: Wait, H: Hub>(
     }
     let mut table = locked.tunnels.lock(rt);
     let mut hub = locked.hub.lock(rt);
-    shared_turn(&mut *table, &locked.cells, seen, &mut *hub, moment, block, event)
+    shared_turn(
+        &mut *table,
+        &locked.cells,
+        seen,
+        &mut *hub,
+        moment,
+        block,
+        event,
+    )
 }
 
-/// Time passes for the tunnel with this id, if it is still there; what it gives goes behind other outputs.
+/// Time passes for the tunnel with this id, if it is still there; its turn goes behind others.
 #[tactic(auto, using(session_cells::proofs::Prefixes::prefix_self))]
 fn tick_at<W: Wait, H: Hub>(
     rt: &W,
@@ -274,23 +293,24 @@ fn tick_at<W: Wait, H: Hub>(
     id: u32,
     moment: u64,
     block: [u8; 16],
-    out: &mut Outputs,
+    turns: &mut Sequence<Turned>,
 ) -> Result<(), StepError>
     requires { IsOf locked.now.cells seen.old }
-    ensures { Later locked.now.cells seen.old seen.new }
+    ensures later { Later locked.now.cells seen.old seen.new }
+    ensures turns { AreTicks moment block turns.old → AreTicks moment block turns.new }
 {
-    let found = locked.tunnels.lock(rt).find(id)?;
-    if let Some(tunnel) = found {
-        let turned = turn_at(rt, locked, seen, id, &*tunnel, moment, block, &Event::Tick)?;
-        if let Some(turned) = turned {
-            out.append(&mut turned.into_outputs())?;
-        }
+    let Some(tunnel) = locked.tunnels.lock(rt).find(id)? else {
+        return Ok(());
+    };
+    let turned = turn_at(rt, locked, seen, id, &*tunnel, moment, block, &Event::Tick)?;
+    if let Some(turned) = turned {
+        turns.push(turned)?;
     }
     Ok(())
 }
 
-/// Time passes, at a moment in milliseconds and with 16 random bytes: a turn of each tunnel, by id. What they give goes behind other
-/// outputs. After a refusal the turns before it stay made, with their outputs.
+/// Time passes, at a moment in milliseconds and with 16 random bytes: a turn of each tunnel, by id, behind others. After a refusal the
+/// turns before it stay made. Where memory is wanting for a turn that was made, that one alone is left out.
 #[tactic(auto, using(session_cells::proofs::Prefixes::prefix_self, session_cells::proofs::Prefixes::prefix_trans))]
 pub fn tick_all<W: Wait, H: Hub>(
     rt: &W,
@@ -298,14 +318,15 @@ pub fn tick_all<W: Wait, H: Hub>(
     seen: &mut CellSeen,
     moment: u64,
     block: [u8; 16],
-    out: &mut Outputs,
+    turns: &mut Sequence<Turned>,
 ) -> Result<(), StepError>
     requires { IsOf locked.now.cells seen.old }
-    ensures { Later locked.now.cells seen.old seen.new }
+    ensures later { Later locked.now.cells seen.old seen.new }
+    ensures turns { AreTicks moment block turns.old → AreTicks moment block turns.new }
 {
     let ids = locked.tunnels.lock(rt).ids()?;
     for id in ids.as_slice() {
-        tick_at(rt, locked, seen, *id, moment, block, out)?;
+        tick_at(rt, locked, seen, *id, moment, block, turns)?;
     }
     Ok(())
 }

@@ -1,6 +1,7 @@
 //! The table of tunnels that threads share.
 
 ghost use Rattle.std.specs.Prelude.{ℕ, List, ◌≡◌, ◌≢◌, ◌||◌, is_some, nat_le, length, [], IfOk, OnOk, OnErr, Some};
+ghost use Rattle.std.specs.Option.{option_copied};
 ghost use Rattle.id_table.specs.Ids.{at, put, without, ids_of};
 ghost use Rattle.id_table.specs.Tables.{HasRoom};
 ghost use Rattle.end_model.specs.Tunnels.{Tunnel};
@@ -8,7 +9,7 @@ ghost use Rattle.end_model.specs.End.{recovered_by};
 ghost use Rattle.tunnel_core.specs.Cores.{tunnel_of};
 ghost use Rattle.tunnel_listing.specs.Listed.{listed_as, is_wanted_at, first_of, least_of, AreListed};
 ghost use Rattle.tunnel_listing.specs.Labels.{IsFirstWanted};
-ghost use Rattle.locked_tunnels.specs.Directory.{listed_at, relisted, IsNarrow};
+ghost use Rattle.locked_tunnels.specs.Directory.{listed_at, relisted, replaced, IsNarrow};
 
 use crate::kept::KeptTunnel;
 use crate::listing::listed_of;
@@ -80,6 +81,31 @@ fn is_wanted_in(places: &Table<Place>, id: u32, wanted: Wanted) -> bool
         None => false,
         Some(place) => is_wanted(wanted, &place.listed),
     }
+}
+
+/// How the tunnel of this place is listed, where it wasn't listed after more turns.
+fn replaced(place: Option<&Place>, turns: u64) -> Option<Listed>
+    ensures { result ≡ replaced turns (option_copied place.entry) }
+{
+    match place {
+        Some(place) if place.turns <= turns => Some(place.listed),
+        Some(_) | None => None,
+    }
+}
+
+/// Lists the tunnel with this id anew, as it was after so many of its turns, unless it was listed after more of them: how it was listed
+/// before, where it is listed anew.
+fn list_in(places: &mut Table<Place>, id: u32, listed: Listed, turns: u64) -> Option<Listed>
+    ensures listed { places.new.entries ≡ relisted listed turns id places.old.entries (at places.old.entries id) }
+    ensures before { result ≡ replaced turns (at places.old.entries id) }
+{
+    let before = replaced(places.get(id), turns)?;
+    let Some(place) = places.get_mut(id) else {
+        unreachable!()
+    };
+    place.listed = listed;
+    place.turns = turns;
+    Some(before)
 }
 
 /// The least tunnel that is looked for, by a look at each id. It takes no memory.
@@ -228,6 +254,7 @@ impl Tunnels {
     }
 
     /// Puts a tunnel that was kept over a start at its local id. Where memory is wanting, it is let go, and the tunnels are as before.
+    #[tactic(auto, using(crate::proofs::Standing::listed_new, crate::proofs::Standing::others_at))]
     pub fn insert(&mut self, kept: KeptTunnel) -> Result<(), NoMemory>
         ensures role { self.new.role ≡ self.old.role }
         ensures lns { self.new.lns ≡ self.old.lns }
@@ -273,16 +300,9 @@ impl Tunnels {
         ensures lns { self.new.lns ≡ self.old.lns }
         ensures listed { self.new.places.entries ≡ relisted listed turns id self.old.places.entries (at self.old.places.entries id) }
     {
-        let Some(place) = self.places.get_mut(id) else {
-            return;
-        };
-        if place.turns > turns {
-            return;
+        if let Some(before) = list_in(&mut self.places, id, listed, turns) {
+            self.indexes.change(id, &Some(before), &Some(listed));
         }
-        let before = Some(place.listed);
-        place.listed = listed;
-        place.turns = turns;
-        self.indexes.change(id, &before, &Some(listed));
     }
 
     /// Takes out the tunnel with this id, if there is one.

@@ -16,13 +16,12 @@ ghost use Rattle.locked_tunnels.specs.Turns.{Told, turn_by, turned, left_by, Ref
 
 mod sharing;
 
-pub use sharing::shared_turn;
-
 use crate::events::copy_event;
 use crate::kept::KeptTunnel;
 use end_model::{Config, Event};
 use session_cells::{CellSeen, Cells};
 use session_looks::CellChanges;
+pub use sharing::shared_turn;
 use std::marker::Model;
 use std::mem;
 use step_hub::{Hub, StepError};

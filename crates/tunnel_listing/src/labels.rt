@@ -80,10 +80,7 @@ pub(crate) fn state_at(listed: &Option<Listed>) -> Option<u64>
 {
     match listed {
         None => None,
-        Some(listed) => Some(state_label(
-            listed.peer,
-            number_by(listed.mode, listed.state),
-        )),
+        Some(listed) => Some(state_label(listed.peer, number_by(listed.mode, listed.state))),
     }
 }
 

@@ -10,7 +10,7 @@ ghost use Rattle.tunnel_core.specs.Cores.{HasRoomFor};
 ghost use Rattle.step_hub.specs.Hubs.{IsLentAs};
 ghost use Rattle.locked_tunnels.specs.Kept.{known};
 ghost use Rattle.locked_tunnels.specs.Turns.{Refuses};
-ghost use Rattle.locked_tunnels.specs.First.{first_known, first_by, is_to_stand, shared_outputs};
+ghost use Rattle.locked_tunnels.specs.First.{first_known, first_by, drawn_first, is_to_stand, shared_outputs};
 ghost use Rattle.locked_tunnels.specs.Shared.{gives, declines, against_opening_in, against_said_in, opens_or_declines_in, recovers_by_in, recovers_in, answer_message, answer_datagram, one_more_in, rings_in, only_in, answer_in};
 
 use super::{Turned, plan, settle};
@@ -20,9 +20,7 @@ use crate::kept::KeptTunnel;
 use crate::listing::{listed_after, listed_of};
 use crate::table::{Place, Tunnels};
 use control_message::{Message, Opening};
-use end_model::{
-    Addressee, Config, ControlOrigin, Declined, Event, Move, Origin, Out, Role,
-};
+use end_model::{Addressee, Config, ControlOrigin, Declined, Event, Move, Origin, Out, Role};
 use l2tp_datagram::{Body, Datagram};
 use l2tp_header::Header;
 use message_reading::{
@@ -30,10 +28,11 @@ use message_reading::{
     no_recovery, no_secret, no_tunnel, other_version, out_of_order, read_body,
 };
 use session_cells::{CellSeen, Cells};
-use session_looks::{CellChanges, header_why};
+use session_looks::{CellChange, CellChanges, header_why};
 use std::alloc::Global;
 use std::sync::{Arc, Mutex};
 use step_hub::{Hub, StepError};
+use step_records::Spaces;
 use tunnel_core::{Env, Moves, Outputs, Planned, TunnelCore};
 use tunnel_listing::Wanted;
 use wire_base::{Cause, NoMemory, Why};
@@ -104,12 +103,7 @@ fn declines(
 
 /// What stands against an SCCRQ that would open a tunnel, the first that counts.
 #[tactic(auto, unfolding(crate::specs::Shared::against_opening_in))]
-fn against_opening(
-    table: &Tunnels,
-    config: &Config,
-    env: &Env,
-    opening: &Opening,
-) -> Option<Reason>
+fn against_opening(table: &Tunnels, config: &Config, env: &Env, opening: &Opening) -> Option<Reason>
     ensures { result ≡ against_opening_in table.now config.now env.now.ids opening.now }
 {
     if !is_of_version(opening) {
@@ -300,12 +294,7 @@ fn opens_at_lac(table: &Tunnels) -> Result<Answer, NoMemory>
 
 /// What becomes of an event, as the end reads it, that no tunnel takes.
 #[tactic(auto, unfolding(crate::specs::Shared::answer_in))]
-fn answer(
-    table: &Tunnels,
-    config: &Config,
-    env: &Env,
-    event: &Event,
-) -> Result<Answer, NoMemory>
+fn answer_event(table: &Tunnels, config: &Config, env: &Env, event: &Event) -> Result<Answer, NoMemory>
     ensures { IfOk result (λ a. a ≡ answer_in table.now config.now env.now.ids event.now) }
 {
     let alloc = table.alloc();
@@ -335,8 +324,8 @@ fn answer_plain(
     ensures { IfOk result (λ a. a ≡ answer_in table.now config.now env.now.ids (uncovered_event config.now.secret event.now)) }
 {
     match plain_event(table.alloc(), config, event)? {
-        None => answer(table, config, env, event),
-        Some(plain) => answer(table, config, env, &plain),
+        None => answer_event(table, config, env, event),
+        Some(plain) => answer_event(table, config, env, &plain),
     }
 }
 
@@ -418,8 +407,32 @@ fn make_place(
     Ok(tunnel)
 }
 
+/// Where a first turn drew no tunnel id, nothing that it drew is.
+fn undraw(env: &mut Env, local: u16, before: Spaces)
+    ensures { env.new ≡ record env.old { ids = drawn_first local before env.old.ids } }
+{
+    if local == 0 {
+        env.tunnels = before.tunnels;
+        env.sessions = before.sessions;
+        env.recoveries = before.recoveries;
+    }
+}
+
+/// Makes the changes of a first turn on the cells, where it drew a tunnel id.
+#[tactic(auto, using(session_cells::proofs::Prefixes::prefix_self))]
+fn enter_first(cells: &Cells, seen: &mut CellSeen, local: u16, changes: &[CellChange])
+    requires full { count_of cells.now ≡ 65536 }
+    requires of { IsOf cells.now seen.old }
+    ensures { Later cells.now seen.old seen.new }
+{
+    if local != 0 {
+        cells.enter_all(seen, changes);
+    }
+}
+
 /// Commits what the planned first turn of a tunnel leaves, and makes it, on the tunnel and on the cells. Then the tunnel stands in the
 /// table behind this lock, unless it drew no id or is gone.
+#[tactic(auto, using(session_cells::proofs::Prefixes::prefix_self))]
 fn make_first<H: Hub>(
     table: &mut Tunnels,
     cells: &Cells,
@@ -450,9 +463,7 @@ fn make_first<H: Hub>(
         return Err(StepError::NoMemory);
     };
     let outputs = settle(&mut kept, hub, env, planned)?;
-    if local != 0 {
-        cells.enter_all(seen, kept.changes());
-    }
+    enter_first(cells, seen, local, kept.changes());
     if stands {
         let (listed, turns) = (listed_of(kept.core()), kept.turns());
         table.note(local, kept.added());
@@ -470,6 +481,7 @@ fn make_first<H: Hub>(
 }
 
 /// A new tunnel's first turn. Where it drew no tunnel id, nothing that it drew is.
+#[tactic(auto, using(session_cells::proofs::Prefixes::prefix_self), unfolding(end_model::specs::Turn::with_turn))]
 fn first_turn<H: Hub>(
     table: &mut Tunnels,
     cells: &Cells,
@@ -492,7 +504,11 @@ fn first_turn<H: Hub>(
 {
     let mut env = env;
     let (moment, block) = (env.moment, env.block);
-    let (tunnels, sessions, recoveries) = (env.tunnels, env.sessions, env.recoveries);
+    let before = Spaces {
+        tunnels: env.tunnels,
+        sessions: env.sessions,
+        recoveries: env.recoveries,
+    };
     let mut kept = new_tunnel(table, peer, moment);
     let Ok((planned, event)) = plan(&mut kept, hub.config(), &mut env, event) else {
         hub.back(env);
@@ -502,11 +518,7 @@ fn first_turn<H: Hub>(
         hub.back(env);
         return Err(StepError::NoMemory);
     };
-    if planned.local() == 0 {
-        env.tunnels = tunnels;
-        env.sessions = sessions;
-        env.recoveries = recoveries;
-    }
+    undraw(&mut env, planned.local(), before);
     let outputs = make_first(table, cells, seen, hub, env, kept, planned, tunnel)?;
     Ok(Turned {
         event,
@@ -520,6 +532,7 @@ fn first_turn<H: Hub>(
 /// turn, or what is declined or ignored. The caller holds the table's lock and the hub's, so that no second tunnel is made for one
 /// SCCRQ. No tunnel is looked at: an event that is for one of the table is its caller's to give to that tunnel, and is ignored here.
 /// Where it is refused, the cells and where ids are drawn from are as before.
+#[tactic(auto, using(session_cells::proofs::Prefixes::prefix_self))]
 pub fn shared_turn<H: Hub>(
     table: &mut Tunnels,
     cells: &Cells,

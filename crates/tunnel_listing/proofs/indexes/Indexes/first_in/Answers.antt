@@ -15,5 +15,5 @@ returns c = by c.first.result c.first.ensures
         → IfSome found (λ o. (f : ℕ → Option Listed) → AreIndexed c.args.self.now f → IsFirstWanted (In c.args.state c.args.peer) f o)
     by None h = h
     by (Some o) h = λ f kept.
-        first_in c.args.self.now f c.args.state c.args.peer o 
+        first_in c.args.self.now f c.args.state c.args.peer o
         (λ labels lists. subst (λ l. IsFirst labels l o) (c.state_label.ensures ∙ ap (λ n. state_label c.args.peer n) c.number_of.ensures.value) (h labels (subst (λ (x : Listings). Lists x.states labels) (sym c.self.view_is) lists))) kept

@@ -15,5 +15,5 @@ returns c = by c.first.result c.first.ensures
         → IfSome found (λ o. (f : ℕ → Option Listed) → AreIndexed c.args.self.now f → IsFirstWanted (Recovered c.args.line) f o)
     by None h = h
     by (Some o) h = λ f kept.
-        first_recovered c.args.self.now f c.args.line o 
+        first_recovered c.args.self.now f c.args.line o
         (λ labels lists. subst (λ l. IsFirst labels l o) (c.from.ensures) (h labels (subst (λ (x : Listings). Lists x.lines labels) (sym c.self.view_is) lists))) kept

@@ -15,5 +15,5 @@ returns c = by c.first.result c.first.ensures
         → IfSome found (λ o. (f : ℕ → Option Listed) → AreIndexed c.args.self.now f → IsFirstWanted (Recovering c.args.peer) f o)
     by None h = h
     by (Some o) h = λ f kept.
-        first_recovering c.args.self.now f c.args.peer o 
+        first_recovering c.args.self.now f c.args.peer o
         (λ labels lists. subst (λ l. IsFirst labels l o) (c.state_label.ensures) (h labels (subst (λ (x : Listings). Lists x.states labels) (sym c.self.view_is) lists))) kept
