@@ -9,11 +9,11 @@ use Rattle.end_model.specs.Secrets.{uncovered_event}
 use Rattle.end_model.specs.Tunnels.{Drawing, new_tunnel}
 use Rattle.end_model.specs.Recovering.{RecoveryTurn}
 use Rattle.tunnel_core.specs.Cores.{Plan}
-use Rattle.locked_tunnels.specs.declared.turned.sharing.Answer.{Answer}
-use Rattle.locked_tunnels.specs.declared.turned.sharing.Answer.TheVariants.{Opens, Gives}
-use Rattle.locked_tunnels.specs.Directory.{Directory}
+use Rattle.tunnel_listing.specs.Directory.{Directory}
+use Rattle.event_routing.specs.declared.answers.Answer.{Answer}
+use Rattle.event_routing.specs.declared.answers.Answer.TheVariants.{Opens, Gives}
+use Rattle.event_routing.specs.Answers.{answer_in}
 use Rattle.locked_tunnels.specs.Kept.{Known}
-use Rattle.locked_tunnels.specs.Shared.{answer_in}
 use Rattle.locked_tunnels.specs.Turns.{turn_by}
 
 -- a tunnel to a peer that is new
@@ -35,7 +35,7 @@ is_to_stand p = not (p.control.local == 0) && not p.cleared
 -- what is given, of an end that is told this and draws from these spaces
 abbrev pub given_by : Role → Config → Drawing → ℕ → List ℕ → Event → Answer → List Out
 given_by role c ids moment block ev (Opens peer) = (first_by role c ids moment block ev peer).turn.outputs
-given_by role c ids moment block ev (Gives outputs moves) = outputs
+given_by role c ids moment block ev (Gives given) = given.outputs
 
 abbrev pub shared_outputs : Directory → Config → Drawing → ℕ → List ℕ → Event → List Out
-shared_outputs d c ids moment block ev = given_by d.role c ids moment block ev (answer_in d c ids (uncovered_event c.secret ev))
+shared_outputs d c ids moment block ev = given_by d.role c ids moment block ev (answer_in d c ids.tunnels (uncovered_event c.secret ev))

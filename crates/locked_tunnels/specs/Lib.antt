@@ -1,5 +1,4 @@
 pub mod Kept
 pub mod Turns
-pub mod Directory
-pub mod Shared
+pub mod Standing
 pub mod First

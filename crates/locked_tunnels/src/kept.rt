@@ -11,8 +11,8 @@ ghost use Rattle.tunnel_calls.specs.Telling.{rows_of, RowsLead};
 ghost use Rattle.tunnel_core.specs.Cores.{tunnel_of, made_of, IsTurn, HasRoomFor};
 ghost use Rattle.locked_tunnels.specs.Kept.{Kept, known};
 
-use crate::events::plain_event;
 use end_model::{Config, Event, Role};
+use event_routing::plain_event;
 use session_looks::{CellChange, CellChanges};
 use std::alloc::Global;
 use std::marker::Model;

@@ -4,8 +4,6 @@
 //! on the cells of its sessions. What a turn was told and gave stands in a value that nothing else makes.
 #![tactic(auto)]
 
-mod addressing;
-mod events;
 mod kept;
 mod listing;
 mod locked;

@@ -7,12 +7,12 @@ ghost use Rattle.session_cells.specs.Changes.{entries_of};
 
 use crate::kept::KeptTunnel;
 use crate::table::Tunnels;
-use end_model::Role;
+use end_model::{Config, Role};
 use session_cells::{CellSeen, Cells};
 use std::alloc::Global;
 use std::sync::Mutex;
 use step_hub::Hub;
-use wire_base::NoMemory;
+use wire_base::{Bytes, NoMemory};
 
 /// A cell for each session id.
 const CELLS: u32 = 65_536;
@@ -24,12 +24,30 @@ pub struct Locked<H: Hub> {
     pub cells: Cells,
     pub(crate) tunnels: Box<Mutex<Tunnels>>,
     pub(crate) hub: Box<Mutex<H>>,
+    /// What the hub told its end when it was put behind its lock: it never tells anything else.
+    pub(crate) config: Config,
     pub ghost all: { count_of cells ≡ 65536 },
 }
 
 fn boxed_table(alloc: Global, role: Role, lns: u32) -> Result<Box<Mutex<Tunnels>>, NoMemory> {
     let tunnels = Tunnels::new(alloc, role, lns)?;
     Ok(Box::new(alloc, Mutex::new(tunnels))?)
+}
+
+fn copy_config(alloc: Global, config: &Config) -> Result<Config, NoMemory>
+    ensures { IfOk result (λ copy. copy ≡ config.now) }
+{
+    let secret = match &config.secret {
+        None => None,
+        Some(secret) => Some(Bytes::from_slice(alloc, secret.as_slice())?),
+    };
+    Ok(Config::new(
+        config.number,
+        config.address,
+        config.lns,
+        secret,
+        config.hide,
+    ))
 }
 
 impl<H: Hub> Locked<H> {
@@ -44,12 +62,16 @@ impl<H: Hub> Locked<H> {
         let Ok(tunnels) = boxed_table(alloc, role, lns) else {
             return Err(hub);
         };
+        let Ok(config) = copy_config(alloc, hub.config()) else {
+            return Err(hub);
+        };
         match Box::new(alloc, Mutex::new(hub)) {
             Ok(hub) => Ok((
                 Locked {
                     cells,
                     tunnels,
                     hub,
+                    config,
                 },
                 seen,
             )),

@@ -5,149 +5,61 @@ ghost use Rattle.std.specs.Prelude.{◌≡◌, IfOk, IfSome};
 ghost use Rattle.session_cells.specs.Tokens.{IsOf, Later};
 ghost use Rattle.locked_tunnels.specs.Turns.{IsTurnOf, AreTicks};
 
-use crate::addressing::addressed;
-use crate::events::plain_event;
 use crate::kept::KeptTunnel;
 use crate::listing::listed_of;
 use crate::locked::Locked;
-use crate::table::Tunnels;
 use crate::turned::{Turned, shared_turn, tunnel_turn};
-use end_model::{Addressee, Config, Event, Role};
-use l2tp_datagram::Datagram;
-use session_cells::CellSeen;
+use end_model::{Config, Event};
+use event_routing::{Route, route_event};
+use session_cells::{CellSeen, Cells};
 use session_looks::Look;
 use std::sync::{Mutex, MutexGuard, Wait};
 use step_hub::{Hub, StepError};
-use tunnel_fsm::TunnelState;
-use tunnel_listing::Wanted;
-use wire_base::{NoMemory, Sequence, Why};
+use tunnel_listing::Directory;
+use wire_base::{NoMemory, Sequence};
 
-/// What a datagram is for, as the end reads it, where it is a control message.
-fn for_whom(table: &Tunnels, peer: u32, datagram: &Datagram) -> Result<Addressee, NoMemory> {
-    let Ok(header) = datagram.header() else {
-        return Ok(Addressee::Nobody { why: Why::Tunnel });
-    };
-    if !header.control {
-        return Ok(Addressee::Nobody { why: Why::Session });
-    }
-    let body = datagram.body(&header);
-    addressed(table, peer, &header, &body)
-}
-
-fn for_whom_in(table: &Tunnels, event: &Event) -> Result<Addressee, NoMemory> {
+/// The call that an event is about.
+fn session_of(event: &Event) -> Option<u16> {
     match event {
-        Event::Datagram { peer, datagram } => for_whom(table, *peer, datagram),
-        _ => Ok(Addressee::Nobody { why: Why::Node }),
-    }
-}
-
-/// What the datagram of an event is for, whose hidden values the end's secret uncovers.
-fn for_whom_plain(table: &Tunnels, config: &Config, event: &Event) -> Result<Addressee, NoMemory> {
-    match plain_event(table.alloc(), config, event)? {
-        None => for_whom_in(table, event),
-        Some(plain) => for_whom_in(table, &plain),
-    }
-}
-
-/// Whether a datagram is a control message that names no tunnel: its values then tell which one it is for.
-fn names_none(datagram: &Datagram) -> bool {
-    match datagram.header() {
-        Ok(header) => header.control && header.tunnel == 0,
-        Err(_) => false,
-    }
-}
-
-/// The tunnel that a datagram's control message is for, where there is one.
-fn of_message<W: Wait, H: Hub>(
-    rt: &W,
-    locked: &Locked<H>,
-    table: &Tunnels,
-    event: &Event,
-    datagram: &Datagram,
-) -> Result<Option<u32>, NoMemory> {
-    let to = if names_none(datagram) {
-        let hub = locked.hub.lock(rt);
-        for_whom_plain(table, hub.config(), event)?
-    } else {
-        for_whom_in(table, event)?
-    };
-    match to {
-        Addressee::Main { tunnel } => Ok(Some(tunnel)),
-        _ => Ok(None),
-    }
-}
-
-/// The tunnel over which a ring goes: the least to the LNS that is open, else the least that is to open.
-fn of_ring(table: &Tunnels) -> Option<u32> {
-    let peer = table.lns();
-    let open = table.least(Wanted::In {
-        state: TunnelState::Established,
-        peer,
-    });
-    if open.is_some() {
-        return open;
-    }
-    table.least(Wanted::In {
-        state: TunnelState::WaitCtlReply,
-        peer,
-    })
-}
-
-/// The tunnel of a call: by its cell, or where the other end doesn't know the call yet by which tunnel made it.
-fn of_call<H: Hub>(
-    locked: &Locked<H>,
-    table: &Tunnels,
-    seen: &mut CellSeen,
-    session: u16,
-) -> Option<u32>
-    requires { IsOf locked.now.cells seen.old }
-    ensures { Later locked.now.cells seen.old seen.new }
-{
-    match locked.cells.lookup(seen, session) {
-        Look::Bound { tunnel, .. } | Look::Established { tunnel, .. } => Some(u32::from(tunnel)),
-        Look::Dead => None,
-        Look::Unborn => Some(table.home(session)),
-    }
-}
-
-/// Whether an end of this kind takes such an event.
-fn is_taken(role: Role, event: &Event) -> bool {
-    match event {
-        Event::Ring { .. }
-        | Event::Admitted { .. }
-        | Event::Payload { .. }
-        | Event::Hang { .. }
-        | Event::OpenTunnel => matches!(role, Role::Lac),
-        Event::Lower { .. } | Event::Lcp { .. } => matches!(role, Role::Lns),
-        _ => true,
-    }
-}
-
-/// The tunnel that an event is for, by the table, where it is for one.
-#[tactic(auto, using(session_cells::proofs::Prefixes::prefix_self))]
-fn of_event<W: Wait, H: Hub>(
-    rt: &W,
-    locked: &Locked<H>,
-    table: &Tunnels,
-    seen: &mut CellSeen,
-    event: &Event,
-) -> Result<Option<u32>, NoMemory>
-    requires { IsOf locked.now.cells seen.old }
-    ensures { Later locked.now.cells seen.old seen.new }
-{
-    if !is_taken(table.role(), event) {
-        return Ok(None);
-    }
-    match event {
-        Event::Datagram { datagram, .. } => of_message(rt, locked, table, event, datagram),
-        Event::Ring { .. } | Event::Admitted { .. } => Ok(of_ring(table)),
-        Event::CloseTunnel { tunnel } => Ok(Some(u32::from(*tunnel))),
         Event::Payload { session, .. }
         | Event::Lower { session, .. }
         | Event::Lcp { session, .. }
         | Event::Hang { session }
-        | Event::DropCall { session } => Ok(of_call(locked, table, seen, *session)),
-        Event::OpenTunnel | Event::Frame { .. } | Event::Tick => Ok(None),
+        | Event::DropCall { session } => Some(*session),
+        Event::Datagram { .. }
+        | Event::Ring { .. }
+        | Event::Frame { .. }
+        | Event::Admitted { .. }
+        | Event::OpenTunnel
+        | Event::CloseTunnel { .. }
+        | Event::Tick => None,
+    }
+}
+
+/// The tunnel of the call that an event is about: by its cell, or where the other end doesn't know the call yet by which tunnel made it.
+#[tactic(auto, using(session_cells::proofs::Prefixes::prefix_self))]
+fn of_call(cells: &Cells, directory: &Directory, seen: &mut CellSeen, event: &Event) -> Option<u32>
+    requires { IsOf cells.now seen.old }
+    ensures { Later cells.now seen.old seen.new }
+{
+    let session = session_of(event)?;
+    match cells.lookup(seen, session) {
+        Look::Bound { tunnel, .. } | Look::Established { tunnel, .. } => Some(u32::from(tunnel)),
+        Look::Dead => None,
+        Look::Unborn => Some(directory.home(session)),
+    }
+}
+
+/// The tunnel that takes an event, where one does.
+fn of_event(
+    directory: &Directory,
+    config: &Config,
+    event: &Event,
+    call: Option<u32>,
+) -> Result<Option<u32>, NoMemory> {
+    match route_event(directory, config, event, call)? {
+        Route::Main { tunnel } => Ok(Some(tunnel)),
+        Route::Recovery { .. } | Route::Attempt { .. } | Route::Nobody => Ok(None),
     }
 }
 
@@ -171,8 +83,7 @@ fn list_again<W: Wait, H: Hub>(
         table.remove(id);
         return;
     }
-    table.note(local, added.as_slice());
-    table.list(id, listed, turns);
+    table.list(id, listed, turns, local, added.as_slice());
 }
 
 /// A turn of a tunnel under its lock and the hub's, after which the table lists it anew. None where the tunnel is gone: the table then
@@ -228,7 +139,8 @@ fn try_turn<W: Wait, H: Hub>(
     ensures turned { IfOk result (λ o. IfSome o (λ t. IsTurnOf event.now moment block t)) }
 {
     let mut table = locked.tunnels.lock(rt);
-    let id = of_event(rt, locked, &*table, seen, event)?.unwrap_or(0);
+    let call = of_call(&locked.cells, table.directory(), seen, event);
+    let id = of_event(table.directory(), &locked.config, event, call)?.unwrap_or(0);
     match table.find(id)? {
         None => {
             let mut hub = locked.hub.lock(rt);

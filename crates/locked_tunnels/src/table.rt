@@ -1,15 +1,14 @@
 //! The table of tunnels that threads share.
 
-ghost use Rattle.std.specs.Prelude.{ℕ, List, ◌≡◌, ◌≢◌, ◌||◌, is_some, nat_le, length, [], IfOk, OnOk, OnErr, Some};
-ghost use Rattle.std.specs.Option.{option_copied};
-ghost use Rattle.id_table.specs.Ids.{at, put, without, ids_of};
+ghost use Rattle.std.specs.Prelude.{ℕ, List, ◌≡◌, ◌≢◌, ◌||◌, Some, is_some, [], IfOk, OnOk, OnErr};
+ghost use Rattle.id_table.specs.Ids.{at, put, without};
 ghost use Rattle.id_table.specs.Tables.{HasRoom};
 ghost use Rattle.end_model.specs.Tunnels.{Tunnel};
 ghost use Rattle.end_model.specs.End.{recovered_by};
+ghost use Rattle.id_table.specs.Ids.{ids_of};
 ghost use Rattle.tunnel_core.specs.Cores.{tunnel_of};
-ghost use Rattle.tunnel_listing.specs.Listed.{listed_as, is_wanted_at, first_of, least_of, AreListed};
-ghost use Rattle.tunnel_listing.specs.Labels.{IsFirstWanted};
-ghost use Rattle.locked_tunnels.specs.Directory.{listed_at, relisted, replaced, IsNarrow};
+ghost use Rattle.tunnel_listing.specs.Listed.{listed_as, AreListed};
+ghost use Rattle.tunnel_listing.specs.Directory.{listed_at, found_in, relisted};
 
 use crate::kept::KeptTunnel;
 use crate::listing::listed_of;
@@ -18,208 +17,65 @@ use id_table::Table;
 use std::alloc::Global;
 use std::marker::Model;
 use std::sync::{Arc, Mutex};
-use tunnel_listing::{Indexes, Listed, Wanted, is_wanted};
-use wire_base::{NoMemory, Sequence};
+use tunnel_listing::{Directory, Listed};
+use wire_base::NoMemory;
 
-/// How many live tunnels an end may have.
-const MOST_TUNNELS: usize = 1024;
-
-/// Ids of tunnels are below this.
-const ALL_IDS: u32 = 65_536;
-
-/// Ids of sessions are below this.
-const ALL_SESSIONS: usize = 65_536;
-
-/// A tunnel of the table: how it is listed, and the tunnel behind its lock.
+/// A tunnel behind its lock.
 #[derive(Drop)]
 pub struct Place {
-    pub(crate) listed: Listed,
-    /// How many turns of the tunnel were made when it was listed.
-    pub(crate) turns: u64,
     pub(crate) tunnel: Arc<Mutex<KeptTunnel>>,
 }
 
 /// The tunnels of an end by local id, each behind a lock of its own, and what each is found by.
 #[derive(Drop)]
 pub struct Tunnels {
-    alloc: Global,
-    role: Role,
-    lns: u32,
+    directory: Directory,
     places: Table<Place>,
-    indexes: Indexes,
-    /// By session id the local id of the tunnel whose call it is or was, 0 where there was none. Session ids aren't drawn again.
-    homes: Vec<u16>,
 }
 
 impl Model for Tunnels {
-    ghost use Rattle.tunnel_listing.specs.Labels.{AreIndexed};
     ghost use Rattle.id_table.specs.Order.{Ascends};
-    ghost use Rattle.locked_tunnels.specs.Directory.{Directory, listed_at, IsNarrow};
+    ghost use Rattle.locked_tunnels.specs.Standing.{Standing, AreSame};
 
-    ghost Value = { Directory };
+    ghost Value = { Standing };
 
-    ghost view = { λ t. record { role = t.role; lns = t.lns; places = t.places } };
+    ghost view = { λ t. record { directory = t.directory; places = t.places } };
 
-    ghost invariant = { λ t. AreIndexed t.indexes (λ i. listed_at t.places.entries i) × Ascends t.places.entries × IsNarrow t.places.entries };
-}
-
-/// How the tunnel with this id is listed, if there is one.
-fn listed_in(places: &Table<Place>, id: u32) -> Option<Listed>
-    ensures { result ≡ listed_at places.now.entries id }
-{
-    match places.get(id) {
-        None => None,
-        Some(place) => Some(place.listed),
-    }
-}
-
-/// Whether a tunnel with this id stands in the table, and is one that is looked for.
-fn is_wanted_in(places: &Table<Place>, id: u32, wanted: Wanted) -> bool
-    ensures { result ≡ is_wanted_at wanted (listed_at places.now.entries id) }
-{
-    match places.get(id) {
-        None => false,
-        Some(place) => is_wanted(wanted, &place.listed),
-    }
-}
-
-/// How the tunnel of this place is listed, where it wasn't listed after more turns.
-fn replaced(place: Option<&Place>, turns: u64) -> Option<Listed>
-    ensures { result ≡ replaced turns (option_copied place.entry) }
-{
-    match place {
-        Some(place) if place.turns <= turns => Some(place.listed),
-        Some(_) | None => None,
-    }
-}
-
-/// Lists the tunnel with this id anew, as it was after so many of its turns, unless it was listed after more of them: how it was listed
-/// before, where it is listed anew.
-fn list_in(places: &mut Table<Place>, id: u32, listed: Listed, turns: u64) -> Option<Listed>
-    ensures listed { places.new.entries ≡ relisted listed turns id places.old.entries (at places.old.entries id) }
-    ensures before { result ≡ replaced turns (at places.old.entries id) }
-{
-    let before = replaced(places.get(id), turns)?;
-    let Some(place) = places.get_mut(id) else {
-        unreachable!()
-    };
-    place.listed = listed;
-    place.turns = turns;
-    Some(before)
-}
-
-/// The least tunnel that is looked for, by a look at each id. It takes no memory.
-fn look_through(places: &Table<Place>, wanted: Wanted) -> Option<u32>
-    requires { IsNarrow places.now.entries }
-    ensures { IsFirstWanted wanted (λ i. listed_at places.now.entries i) result }
-{
-    for id in 0..ALL_IDS {
-        if is_wanted_in(places, id, wanted) {
-            return Some(id);
-        }
-    }
-    None
-}
-
-/// Notes of these sessions that they are calls of a tunnel.
-fn note_all(homes: &mut Vec<u16>, tunnel: u16, sessions: &[u16]) {
-    for session in sessions {
-        if let Some(home) = homes.get_mut(usize::from(*session)) {
-            *home = tunnel;
-        }
-    }
+    ghost invariant = { λ t. AreSame t.directory t.places × Ascends t.places.entries };
 }
 
 impl Tunnels {
     /// The table of an end of this kind without a tunnel. `lns` is the address of a LAC's LNS, an IPv4 address as a number; 0 at an
     /// LNS.
     pub fn new(alloc: Global, role: Role, lns: u32) -> Result<Tunnels, NoMemory>
-        ensures role { IfOk result (λ t. t.role ≡ role) }
-        ensures lns { IfOk result (λ t. t.lns ≡ lns) }
-        ensures places { IfOk result (λ t. t.places.entries ≡ []) }
+        ensures role { IfOk result (λ t. t.directory.role ≡ role) }
+        ensures lns { IfOk result (λ t. t.directory.lns ≡ lns) }
+        ensures none { IfOk result (λ t. t.directory.places.entries ≡ []) }
     {
         Ok(Tunnels {
-            alloc,
-            role,
-            lns,
+            directory: Directory::new(alloc, role, lns)?,
             places: Table::new(alloc),
-            indexes: Indexes::new(alloc),
-            homes: vec![in alloc; 0; ALL_SESSIONS]?,
         })
     }
 
-    pub(crate) fn alloc(&self) -> Global {
-        self.alloc
-    }
-
-    /// Which end it is of.
-    pub fn role(&self) -> Role
-        ensures { result ≡ self.now.role }
+    /// How the tunnels are listed.
+    pub fn directory(&self) -> &Directory
+        ensures { result.now ≡ self.now.directory }
     {
-        self.role
-    }
-
-    /// The address of a LAC's LNS, an IPv4 address as a number; 0 at an LNS.
-    pub fn lns(&self) -> u32
-        ensures { result ≡ self.now.lns }
-    {
-        self.lns
-    }
-
-    /// The local ids of the tunnels, in order.
-    pub fn ids(&self) -> Result<Sequence<u32>, NoMemory>
-        ensures { IfOk result (λ ids. ids ≡ ids_of self.now.places.entries) }
-    {
-        self.places.ids(self.alloc)
-    }
-
-    /// Whether a tunnel with this local id stands in the table.
-    pub fn contains(&self, id: u32) -> bool
-        ensures { result ≡ is_some (at self.now.places.entries id) }
-    {
-        self.places.contains(id)
-    }
-
-    /// How the tunnel with this local id is listed, where there is one.
-    pub fn listed(&self, id: u32) -> Option<Listed>
-        ensures { result ≡ listed_at self.now.places.entries id }
-    {
-        listed_in(&self.places, id)
-    }
-
-    /// The least tunnel that is looked for, as the tunnels are listed: that which an end would find among its tunnels whose table lists
-    /// each as it is. The indexes tell it in time in proportion to the logarithm of the number of tunnels. Each id is looked at only
-    /// where they don't, after memory was wanting as a tunnel was listed. It takes no memory.
-    #[tactic(auto, using(tunnel_listing::proofs::Finding::least_is))]
-    pub fn least(&self, wanted: Wanted) -> Option<u32>
-        ensures found { result ≡ first_of wanted (λ i. listed_at self.now.places.entries i) (ids_of self.now.places.entries) }
-        ensures end { (ts : List (ℕ × Tunnel)) → AreListed (λ i. listed_at self.now.places.entries i) (ids_of self.now.places.entries) ts → least_of wanted ts ≡ result }
-    {
-        match self.indexes.first(wanted) {
-            Some(found) => found,
-            None => look_through(&self.places, wanted),
-        }
+        &self.directory
     }
 
     /// Whether this is the id of a tunnel, or that of the recovery tunnel of one: of an attempt or of an answer.
     pub fn holds(&self, id: u16) -> bool
-        ensures found { result ≡ (is_some (at self.now.places.entries id) || is_some (first_of (Wanted.Recovered id) (λ i. listed_at self.now.places.entries i) (ids_of self.now.places.entries))) }
-        ensures end { (ts : List (ℕ × Tunnel)) → AreListed (λ i. listed_at self.now.places.entries i) (ids_of self.now.places.entries) ts → (is_some (at ts id) || is_some (recovered_by id ts)) ≡ result }
+        ensures found { result ≡ (is_some (at self.now.directory.places.entries id) || is_some (found_in self.now.directory (Wanted.Recovered id))) }
+        ensures end { (ts : List (ℕ × Tunnel)) → AreListed (λ i. listed_at self.now.directory.places.entries i) (ids_of self.now.directory.places.entries) ts → (is_some (at ts id) || is_some (recovered_by id ts)) ≡ result }
     {
-        let main = self.contains(u32::from(id));
-        main || self.least(Wanted::Recovered { line: id }).is_some()
-    }
-
-    /// Whether the end has as many tunnels as it may.
-    pub fn is_full(&self) -> bool
-        ensures { result ≡ nat_le 1024 (length self.now.places.entries) }
-    {
-        self.places.len() >= MOST_TUNNELS
+        self.directory.holds(id)
     }
 
     /// The tunnel with this local id behind its lock, where there is one.
     pub fn find(&self, id: u32) -> Result<Option<Arc<Mutex<KeptTunnel>>>, NoMemory>
-        ensures { IfOk result (λ found. is_some found ≡ is_some (at self.now.places.entries id)) }
+        ensures { IfOk result (λ found. is_some found ≡ is_some (at self.now.directory.places.entries id)) }
     {
         match self.places.get(id) {
             None => Ok(None),
@@ -229,90 +85,70 @@ impl Tunnels {
 
     /// Makes room for a tunnel that is to be put at an id. Where memory is wanting, the tunnels are as before.
     pub(crate) fn make_room(&mut self, id: u16, listed: Listed) -> Result<(), NoMemory>
-        ensures role { self.new.role ≡ self.old.role }
-        ensures lns { self.new.lns ≡ self.old.lns }
-        ensures places { self.new.places.entries ≡ self.old.places.entries }
+        ensures role { self.new.directory.role ≡ self.old.directory.role }
+        ensures lns { self.new.directory.lns ≡ self.old.directory.lns }
+        ensures listed { self.new.directory.places.entries ≡ self.old.directory.places.entries }
+        ensures listed_room { OnOk result (HasRoom self.new.directory.places id) }
         ensures room { OnOk result (HasRoom self.new.places id) }
     {
-        let id = u32::from(id);
-        self.indexes.make_room(id, &Some(listed))?;
-        self.places.make_room(id)
+        self.directory.make_room(id, listed)?;
+        self.places.make_room(u32::from(id))
     }
 
-    /// Puts a tunnel at an id that has room. It takes no memory.
-    pub(crate) fn put(&mut self, id: u16, place: Place)
-        requires { HasRoom self.old.places id }
-        ensures role { self.new.role ≡ self.old.role }
-        ensures lns { self.new.lns ≡ self.old.lns }
-        ensures put { self.new.places.entries ≡ put self.old.places.entries id place }
+    /// Puts a tunnel at an id that has room, listed as it was after so many of its turns.
+    pub(crate) fn put(&mut self, id: u16, listed: Listed, turns: u64, place: Place)
+        requires { HasRoom self.old.directory.places id × HasRoom self.old.places id }
+        ensures role { self.new.directory.role ≡ self.old.directory.role }
+        ensures lns { self.new.directory.lns ≡ self.old.directory.lns }
+        ensures listed { self.new.directory.places.entries ≡ put self.old.directory.places.entries id (record { listed = listed; turns = turns }) }
     {
-        let id = u32::from(id);
-        let before = listed_in(&self.places, id);
-        let after = Some(place.listed);
-        self.indexes.change(id, &before, &after);
-        self.places.fill(id, place);
+        self.directory.put(id, listed, turns);
+        self.places.fill(u32::from(id), place);
     }
 
     /// Puts a tunnel that was kept over a start at its local id. Where memory is wanting, it is let go, and the tunnels are as before.
-    #[tactic(auto, using(crate::proofs::Standing::listed_new, crate::proofs::Standing::others_at))]
+    #[tactic(auto, using(crate::proofs::Places::listed_new, crate::proofs::Places::others_listed))]
     pub fn insert(&mut self, kept: KeptTunnel) -> Result<(), NoMemory>
-        ensures role { self.new.role ≡ self.old.role }
-        ensures lns { self.new.lns ≡ self.old.lns }
-        ensures listed { OnOk result (listed_at self.new.places.entries kept.core.control.local ≡ Some (listed_as (tunnel_of kept.core))) }
-        ensures others { OnOk result ((i : ℕ) → i ≢ kept.core.control.local → at self.new.places.entries i ≡ at self.old.places.entries i) }
-        ensures same { OnErr result (self.new.places.entries ≡ self.old.places.entries) }
+        ensures role { self.new.directory.role ≡ self.old.directory.role }
+        ensures lns { self.new.directory.lns ≡ self.old.directory.lns }
+        ensures listed { OnOk result (listed_at self.new.directory.places.entries kept.core.control.local ≡ Some (listed_as (tunnel_of kept.core))) }
+        ensures others { OnOk result ((i : ℕ) → i ≢ kept.core.control.local → listed_at self.new.directory.places.entries i ≡ listed_at self.old.directory.places.entries i) }
+        ensures same { OnErr result (self.new.directory.places.entries ≡ self.old.directory.places.entries) }
     {
         let id = kept.core().control().local;
         let listed = listed_of(kept.core());
         let turns = kept.turns();
-        let tunnel = Arc::new(self.alloc, Mutex::new(kept))?;
+        let tunnel = Arc::new(self.directory.alloc(), Mutex::new(kept))?;
         self.make_room(id, listed)?;
-        self.put(
-            id,
-            Place {
-                listed,
-                turns,
-                tunnel,
-            },
-        );
+        self.put(id, listed, turns, Place { tunnel });
         Ok(())
     }
 
-    /// Notes the calls that a tunnel with this local id made. Nothing else is changed.
-    pub(crate) fn note(&mut self, tunnel: u16, added: &[u16])
+    /// Lists the tunnel with this id anew, as it was after so many of its turns, unless it was listed after more of them, and notes the
+    /// calls that it made.
+    pub(crate) fn list(&mut self, id: u32, listed: Listed, turns: u64, local: u16, added: &[u16])
+        ensures role { self.new.directory.role ≡ self.old.directory.role }
+        ensures lns { self.new.directory.lns ≡ self.old.directory.lns }
+        ensures listed { self.new.directory.places.entries ≡ relisted listed turns id self.old.directory.places.entries (at self.old.directory.places.entries id) }
+    {
+        self.directory.note(local, added);
+        self.directory.list(id, listed, turns);
+    }
+
+    /// Notes the calls that a tunnel made. Nothing else is changed.
+    pub(crate) fn note(&mut self, local: u16, added: &[u16])
         ensures { self.new ≡ self.old }
     {
-        note_all(&mut self.homes, tunnel, added);
-    }
-
-    /// The local id of the tunnel that made the call with this session id, 0 where none did. Both may be gone.
-    pub(crate) fn home(&self, session: u16) -> u32 {
-        match self.homes.get(usize::from(session)) {
-            Some(tunnel) => u32::from(*tunnel),
-            None => 0,
-        }
-    }
-
-    /// Lists the tunnel with this id anew, as it was after so many of its turns, unless it was listed after more of them. Nothing else
-    /// is changed.
-    pub fn list(&mut self, id: u32, listed: Listed, turns: u64)
-        ensures role { self.new.role ≡ self.old.role }
-        ensures lns { self.new.lns ≡ self.old.lns }
-        ensures listed { self.new.places.entries ≡ relisted listed turns id self.old.places.entries (at self.old.places.entries id) }
-    {
-        if let Some(before) = list_in(&mut self.places, id, listed, turns) {
-            self.indexes.change(id, &Some(before), &Some(listed));
-        }
+        self.directory.note(local, added);
     }
 
     /// Takes out the tunnel with this id, if there is one.
-    pub fn remove(&mut self, id: u32)
-        ensures role { self.new.role ≡ self.old.role }
-        ensures lns { self.new.lns ≡ self.old.lns }
-        ensures removed { self.new.places.entries ≡ without self.old.places.entries id }
+    pub(crate) fn remove(&mut self, id: u32)
+        ensures role { self.new.directory.role ≡ self.old.directory.role }
+        ensures lns { self.new.directory.lns ≡ self.old.directory.lns }
+        ensures removed { self.new.directory.places.entries ≡ without self.old.directory.places.entries id }
     {
-        let before = listed_in(&self.places, id);
-        self.indexes.change(id, &before, &None);
+        self.directory.remove(id);
         self.places.remove(id);
     }
 }

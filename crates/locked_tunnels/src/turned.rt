@@ -16,9 +16,9 @@ ghost use Rattle.locked_tunnels.specs.Turns.{Told, turn_by, turned, left_by, Ref
 
 mod sharing;
 
-use crate::events::copy_event;
 use crate::kept::KeptTunnel;
 use end_model::{Config, Event};
+use event_routing::copy_event;
 use session_cells::{CellSeen, Cells};
 use session_looks::CellChanges;
 pub use sharing::shared_turn;

@@ -1,2 +1,3 @@
 mod Listing
 pub mod Finding
+pub mod Standing

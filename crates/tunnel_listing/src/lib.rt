@@ -2,9 +2,10 @@
 //! stand behind locks.
 #![tactic(auto)]
 
+mod directory;
 mod indexes;
 mod labels;
 mod listed;
 
-pub use indexes::Indexes;
-pub use listed::{Listed, Wanted, is_wanted};
+pub use directory::{Directory, Entry};
+pub use listed::{Listed, Wanted};

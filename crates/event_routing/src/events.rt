@@ -10,7 +10,7 @@ use std::alloc::Global;
 use wire_base::{Bytes, NoMemory};
 
 /// A copy of an event.
-pub(crate) fn copy_event(alloc: Global, event: &Event) -> Result<Event, NoMemory>
+pub fn copy_event(alloc: Global, event: &Event) -> Result<Event, NoMemory>
     ensures { IfOk result (λ copy. copy ≡ event.now) }
 {
     let copy = |bytes: &[u8]| Bytes::from_slice(alloc, bytes);
@@ -46,11 +46,7 @@ pub(crate) fn copy_event(alloc: Global, event: &Event) -> Result<Event, NoMemory
 
 /// An event as an end with this secret reads it: a datagram whose hidden values the secret uncovers is one with those values in plain
 /// (RFC 2661 section 4.3). None where it is as it came.
-pub(crate) fn plain_event(
-    alloc: Global,
-    config: &Config,
-    event: &Event,
-) -> Result<Option<Event>, NoMemory>
+pub fn plain_event(alloc: Global, config: &Config, event: &Event) -> Result<Option<Event>, NoMemory>
     ensures { IfOk result (λ plain. unwrap_or plain event.now ≡ uncovered_event config.now.secret event.now) }
 {
     let Event::Datagram { peer, datagram } = event else {

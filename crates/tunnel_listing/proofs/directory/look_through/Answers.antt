@@ -1,6 +1,6 @@
 use Rattle.std.proofs.Common.{sym, ◌∙◌, arith}
-use Rattle.locked_tunnels.proofs.Standing.{none_first, some_first}
-use Rattle.locked_tunnels.proofs.table.look_through.Goals as goal
+use Rattle.tunnel_listing.proofs.Standing.{none_first, some_first}
+use Rattle.tunnel_listing.proofs.directory.look_through.Goals as goal
 
 pub returns-then-is_wanted_in : goal.returns-then-is_wanted_in
 returns-then-is_wanted_in c =
