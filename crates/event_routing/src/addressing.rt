@@ -1,7 +1,7 @@
 //! Which tunnel a control message is for.
 
 ghost use Rattle.std.specs.Prelude.{◌≡◌, is_some, option_map, IfOk, IfSome};
-ghost use Rattle.id_directory.specs.Ids.{at};
+ghost use Rattle.id_table.specs.Ids.{at};
 ghost use Rattle.end_model.specs.Reading.{at_tunnel};
 ghost use Rattle.tunnel_listing.specs.declared.listed.Wanted.TheVariants as wanted;
 ghost use Rattle.end_model.specs.End.{stopped_at};
