@@ -4,7 +4,7 @@ use Rattle.id_table.specs.Ids.{at}
 use Rattle.wire_base.specs.declared.why.Why.TheVariants as why
 use Rattle.l2tp_header.specs.declared.header.Header.{Header}
 use Rattle.end_model.specs.declared.event.Addressee.{Addressee}
-use Rattle.end_model.specs.declared.event.Addressee.TheVariants.{Opens, Stops, Main, Recovery, Recovers, Nobody}
+use Rattle.end_model.specs.declared.event.Addressee.TheVariants.{Opens, Stops, Recovery, Recovers, Nobody}
 use Rattle.end_model.specs.Reading.{at_zero, at_tunnel}
 use Rattle.end_model.specs.End.{opened_before, answered_before, stopped_at}
 use Rattle.tunnel_listing.specs.declared.listed.Listed.{Listed}

@@ -1,6 +1,5 @@
 -- What becomes of an event that no tunnel takes.
-use Rattle.std.specs.Prelude.{◌≡◌, ℕ, List, [], ◌∷◌, length, Bool, true, false, not, ◌==◌, nat_le, if◌then◌else◌, Option, Some, None, is_some, option_map, Result, Ok, Err}
-use Rattle.id_table.specs.Ids.{at, ids_of}
+use Rattle.std.specs.Prelude.{ℕ, List, [], ◌∷◌, length, not, ◌==◌, nat_le, if◌then◌else◌, Option, Some, None, is_some, Result, Ok, Err}
 use Rattle.id_source.specs.Spaces.{Space, takes_id}
 use Rattle.wire_base.specs.declared.why.Why.{Why}
 use Rattle.wire_base.specs.declared.why.Why.TheVariants as why
@@ -24,7 +23,7 @@ use Rattle.end_model.specs.declared.out.Out.{Out}
 use Rattle.end_model.specs.declared.out.Out.TheVariants.{Send, Drop, Cause}
 use Rattle.end_model.specs.declared.moves.Move.TheVariants as move
 use Rattle.end_model.specs.declared.tunnel.Config.{Config}
-use Rattle.end_model.specs.Reading.{message_in, TunnelFault, tunnel_fault_in, at_zero, at_tunnel}
+use Rattle.end_model.specs.Reading.{message_in, TunnelFault, tunnel_fault_in}
 use Rattle.end_model.specs.Reasons.{Reason, out_of_order, other_version, no_recovery, no_secret, no_tunnel}
 use Rattle.end_model.specs.Secrets.{lacks_secret}
 use Rattle.end_model.specs.End.{lacks_id, against_faulty, next_of_peer, decline_bytes, decline_origin}

@@ -1,5 +1,5 @@
 -- Which tunnel of an end takes an event, as its tunnels are listed.
-use Rattle.std.specs.Prelude.{ℕ, List, Bool, true, false, if◌then◌else◌, Option, Some, None, is_some, Result, Ok, Err}
+use Rattle.std.specs.Prelude.{ℕ, List, if◌then◌else◌, Option, Some, None, is_some, Result, Ok, Err}
 use Rattle.id_table.specs.Ids.{at}
 use Rattle.wire_base.specs.declared.why.Why.{Why}
 use Rattle.l2tp_header.specs.declared.header.Header.{Header}

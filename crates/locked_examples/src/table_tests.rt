@@ -103,7 +103,8 @@ fn a_table_takes_a_tunnel_and_its_call(rt: HostRuntime) -> Result<(), Fail> {
     assert_eq!(rt; hears(&rt, alloc, &locked, &mut seen, ONE, SCCRQ)?, Some(1));
     assert_eq!(rt; hears(&rt, alloc, &locked, &mut seen, ONE, SCCCN)?, Some(1));
     assert_eq!(rt; hears(&rt, alloc, &locked, &mut seen, ONE, ICRQ)?, Some(1));
-    assert_eq!(rt; hears(&rt, alloc, &locked, &mut seen, ONE, ICCN)?, Some(1));
+    // an acknowledgement, and the first request of the call's LCP
+    assert_eq!(rt; hears(&rt, alloc, &locked, &mut seen, ONE, ICCN)?, Some(2));
     let look = locked.cells.lookup(&mut seen, 1);
     assert!(rt;
         matches!(

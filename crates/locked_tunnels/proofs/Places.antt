@@ -20,13 +20,21 @@ others_listed fs ps id e are i apart = rw are (ap (λ (o : Option Entry). option
 
 -- ---- the same tunnels
 
+pub ascends_none : {X : Type 0} (es : List (ℕ × X)) → es ≡ [] → Ascends es
+unfolding Ascends
+ascends_none es none = rw none tt
+
+pub is_there : (d : Directory) (ps : Kept Place) (id : ℕ) → AreSame d ps → is_some (at ps.entries id) ≡ is_some (at d.places.entries id)
+unfolding AreSame
+is_there d ps id same = same id
+
 there_put : {X Y : Type 0} (es : List (ℕ × X)) (fs : List (ℕ × Y)) (id : ℕ) (x : X) (y : Y) → ((i : ℕ) → is_some (at es i) ≡ is_some (at fs i))
     → (i : ℕ) → is_some (at (put es id x) i) ≡ is_some (at (put fs id y) i)
 there_put es fs id x y same i =
     ⊎_elim
     (λ (e : i ≡ id).
-        subst (λ n. is_some (at (put es id x) n) ≡ is_some (at (put fs id y) n)) (sym e)
-        (ap is_some (at_new es id x) ∙ sym (ap is_some (at_new fs id y))))
+    subst (λ n. is_some (at (put es id x) n) ≡ is_some (at (put fs id y) n)) (sym e)
+    (ap is_some (at_new es id x) ∙ sym (ap is_some (at_new fs id y))))
     (λ (apart : i ≡ id → ⊥). ap is_some (at_other es id x i apart) ∙ same i ∙ sym (ap is_some (at_other fs id y i apart)))
     (same_or_not i id)
 
@@ -35,7 +43,7 @@ there_without : {X Y : Type 0} (es : List (ℕ × X)) (fs : List (ℕ × Y)) (id
 there_without es fs id none gone same i =
     ⊎_elim
     (λ (e : i ≡ id).
-        subst (λ n. is_some (at (without es id) n) ≡ is_some (at (without fs id) n)) (sym e) (ap is_some none ∙ sym (ap is_some gone)))
+    subst (λ n. is_some (at (without es id) n) ≡ is_some (at (without fs id) n)) (sym e) (ap is_some none ∙ sym (ap is_some gone)))
     (λ (apart : i ≡ id → ⊥). ap is_some (at_without_other es id i apart) ∙ same i ∙ sym (ap is_some (at_without_other fs id i apart)))
     (same_or_not i id)
 
@@ -73,6 +81,7 @@ there_relisted l turns id es i = by (at es id) refl
         → is_some (at (if b then es else put es id (record x { listed = l; turns = turns })) i) ≡ is_some (at es i)
     late x true found = refl
     late x false found = there_again es id x (record x { listed = l; turns = turns }) found i
+
     by : (o : Option Entry) → at es id ≡ o → is_some (at (relisted l turns id es o) i) ≡ is_some (at es i)
     by None found = refl
     by (Some x) found = late x (nat_lt turns x.turns) found

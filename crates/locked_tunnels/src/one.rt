@@ -2,7 +2,7 @@
 //! table's, and never are two tunnels locked at once.
 
 ghost use Rattle.std.specs.Prelude.{◌≡◌, IfOk, IfSome};
-ghost use Rattle.session_cells.specs.Tokens.{IsOf, Later};
+ghost use Rattle.session_cells.specs.Tokens.{IsOf, count_of, Later};
 ghost use Rattle.locked_tunnels.specs.Turns.{IsTurnOf, AreTicks};
 
 use crate::kept::KeptTunnel;
@@ -39,7 +39,8 @@ fn session_of(event: &Event) -> Option<u16> {
 /// The tunnel of the call that an event is about: by its cell, or where the other end doesn't know the call yet by which tunnel made it.
 #[tactic(auto, using(session_cells::proofs::Prefixes::prefix_self))]
 fn of_call(cells: &Cells, directory: &Directory, seen: &mut CellSeen, event: &Event) -> Option<u32>
-    requires { IsOf cells.now seen.old }
+    requires full { count_of cells.now ≡ 65536 }
+    requires of { IsOf cells.now seen.old }
     ensures { Later cells.now seen.old seen.new }
 {
     let session = session_of(event)?;
@@ -236,7 +237,7 @@ pub fn tick_all<W: Wait, H: Hub>(
     ensures later { Later locked.now.cells seen.old seen.new }
     ensures turns { AreTicks moment block turns.old → AreTicks moment block turns.new }
 {
-    let ids = locked.tunnels.lock(rt).ids()?;
+    let ids = locked.tunnels.lock(rt).directory().ids()?;
     for id in ids.as_slice() {
         tick_at(rt, locked, seen, *id, moment, block, turns)?;
     }

@@ -7,6 +7,7 @@ ghost use Rattle.end_model.specs.Tunnels.{Tunnel};
 ghost use Rattle.end_model.specs.End.{recovered_by};
 ghost use Rattle.id_table.specs.Ids.{ids_of};
 ghost use Rattle.tunnel_core.specs.Cores.{tunnel_of};
+ghost use Rattle.tunnel_listing.specs.declared.listed.Wanted.TheVariants as wanted;
 ghost use Rattle.tunnel_listing.specs.Listed.{listed_as, AreListed};
 ghost use Rattle.tunnel_listing.specs.Directory.{listed_at, found_in, relisted};
 
@@ -67,7 +68,7 @@ impl Tunnels {
 
     /// Whether this is the id of a tunnel, or that of the recovery tunnel of one: of an attempt or of an answer.
     pub fn holds(&self, id: u16) -> bool
-        ensures found { result ≡ (is_some (at self.now.directory.places.entries id) || is_some (found_in self.now.directory (Wanted.Recovered id))) }
+        ensures found { result ≡ (is_some (at self.now.directory.places.entries id) || is_some (found_in self.now.directory (wanted.Recovered id))) }
         ensures end { (ts : List (ℕ × Tunnel)) → AreListed (λ i. listed_at self.now.directory.places.entries i) (ids_of self.now.directory.places.entries) ts → (is_some (at ts id) || is_some (recovered_by id ts)) ≡ result }
     {
         self.directory.holds(id)
