@@ -2,3 +2,8 @@ pub mod Kept
 pub mod Turns
 pub mod Standing
 pub mod First
+pub mod Looking
+pub mod Ticking
+pub mod Quiet
+pub mod Attempts
+pub mod Kinds

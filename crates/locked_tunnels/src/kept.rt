@@ -1,23 +1,23 @@
 //! A tunnel as it stands behind its lock.
 
-ghost use Rattle.std.specs.Prelude.{◌≡◌, false, IfOk, OnOk};
+ghost use Rattle.std.specs.Prelude.{◌≡◌, true, false, IfOk, IfSome};
 ghost use Rattle.end_model.specs.Calls.{sessions_of};
-ghost use Rattle.end_model.specs.Events.{tunnel_after};
-ghost use Rattle.end_model.specs.Recovering.{recovering_turns};
-ghost use Rattle.end_model.specs.Secrets.{uncovered_event};
-ghost use Rattle.end_model.specs.Tunnels.{turn_in};
-ghost use Rattle.end_model.specs.Turn.{with_turn};
 ghost use Rattle.tunnel_calls.specs.Telling.{rows_of, RowsLead};
-ghost use Rattle.tunnel_core.specs.Cores.{tunnel_of, made_of, IsTurn, HasRoomFor};
+ghost use Rattle.tunnel_core.specs.Cores.{tunnel_of, made_of, HasRoomFor};
+ghost use Rattle.tunnel_timers.specs.Due.{IsNoLater, tunnel_due};
 ghost use Rattle.locked_tunnels.specs.Kept.{Kept, known};
+ghost use Rattle.locked_tunnels.specs.Ticking.{TicksIdly};
+ghost use Rattle.locked_tunnels.specs.Kinds.{made_by};
 
-use end_model::{Config, Event, Role};
-use event_routing::plain_event;
+mod planning;
+
+use due_laws::early_ticks_do_nothing;
+use end_model::Role;
 use session_looks::{CellChange, CellChanges};
 use std::alloc::Global;
 use std::marker::Model;
 use std::mem;
-use tunnel_core::{Env, Planned, Rows, Task, TunnelCore};
+use tunnel_core::{Planned, Rows, TunnelCore};
 use wire_base::{NoMemory, Pairs, Sequence};
 
 /// Local session ids of calls, in the order in which they were made.
@@ -128,39 +128,28 @@ impl KeptTunnel {
         self.turns
     }
 
-    /// Plans a turn by an event, which is uncovered for it by the end's secret.
-    fn plan_uncovered(
-        &mut self,
-        config: &Config,
-        env: &mut Env,
-        event: &Event,
-    ) -> Result<Planned, NoMemory>
-        ensures same { known self.new ≡ known self.old }
-        ensures planned { IfOk result (λ p. IsTurn p self.old.core.recovery (recovering_turns self.old.role config.now (tunnel_of self.old.core) (uncovered_event config.now.secret event.now) (turn_in (tunnel_of self.old.core) env.old))) }
-        ensures room { IfOk result (λ p. HasRoomFor self.new.core p) }
-        ensures given { OnOk result (env.new ≡ with_turn (recovering_turns self.old.role config.now (tunnel_of self.old.core) (uncovered_event config.now.secret event.now) (turn_in (tunnel_of self.old.core) env.old)).turn env.old) }
+    /// A moment before which a tick does nothing for it, in milliseconds.
+    pub(crate) fn due(&self) -> u64
+        ensures { IsNoLater result (tunnel_due (tunnel_of self.now.core)) }
     {
-        match plain_event(self.alloc, config, event)? {
-            None => self.core.plan(self.role, config, env, &Task::Event(event)),
-            Some(plain) => self.core.plan(self.role, config, env, &Task::Event(&plain)),
-        }
+        self.core.due()
     }
 
-    /// Plans a turn by an event, which is uncovered for it by the end's secret. What the tunnel stands for is as before.
-    pub(crate) fn plan_event(
-        &mut self,
-        config: &Config,
-        env: &mut Env,
-        event: &Event,
-    ) -> Result<Planned, NoMemory>
-        ensures same { known self.new ≡ known self.old }
-        ensures planned { IfOk result (λ p. IsTurn p self.old.core.recovery (recovering_turns self.old.role config.now (tunnel_of self.old.core) (uncovered_event config.now.secret event.now) (turn_in (tunnel_of self.old.core) env.old))) }
-        ensures room { IfOk result (λ p. HasRoomFor self.new.core p) }
-        ensures given { OnOk result (env.new ≡ with_turn (recovering_turns self.old.role config.now (tunnel_of self.old.core) (uncovered_event config.now.secret event.now) (turn_in (tunnel_of self.old.core) env.old)).turn env.old) }
+    /// Whether nothing is due for it yet at a moment, in milliseconds: its tick would do nothing.
+    pub(crate) fn is_early(&self, moment: u64) -> bool
+        ensures { result ≡ true → TicksIdly (known self.now) moment }
     {
-        let planned = self.plan_uncovered(config, env, event)?;
-        self.added = Added::from_slice(self.alloc, planned.added())?;
-        Ok(planned)
+        early_ticks_do_nothing();
+        let due = self.due();
+        moment < due
+    }
+
+    /// Looks at all calls where something was due for one at this moment, so that it is known again when something is. It leaves what the
+    /// tunnel stands for.
+    pub(crate) fn look_again(&mut self, moment: u64)
+        ensures { self.new ≡ self.old }
+    {
+        self.core.look_again(moment);
     }
 
     /// Makes the planned turn, which changed this. It takes no memory.
@@ -172,5 +161,16 @@ impl KeptTunnel {
         self.core.apply(planned);
         self.changes = changes;
         self.turns = self.turns.saturating_add(1);
+    }
+
+    /// Makes the turn that was planned, if any, which changed this in the looks. It takes no memory.
+    pub(crate) fn make(&mut self, planned: Option<Planned>, changes: CellChanges)
+        requires { IfSome planned (λ p. HasRoomFor self.old.core p) }
+        ensures { known self.new ≡ made_by planned changes (known self.old) }
+    {
+        match planned {
+            Some(planned) => self.apply(planned, changes),
+            None => self.changes = changes,
+        }
     }
 }

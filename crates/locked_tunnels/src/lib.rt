@@ -4,15 +4,22 @@
 //! on the cells of its sessions. What a turn was told and gave stands in a value that nothing else makes.
 #![tactic(auto)]
 
+mod attempt;
 mod kept;
+mod kind;
 mod listing;
 mod locked;
+mod looking;
 mod one;
+mod quiet;
 mod table;
 mod turned;
+mod unlocked;
 
 pub use kept::KeptTunnel;
+pub use kind::TurnKind;
 pub use locked::Locked;
+pub use looking::{has_call, next_session, subscriber_of};
 pub use one::{tick_all, turn_one};
 pub use table::{Place, Tunnels};
-pub use turned::{Turned, shared_turn, tunnel_turn};
+pub use turned::{Turned, kind_turn, shared_turn, tunnel_turn};

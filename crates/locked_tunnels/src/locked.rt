@@ -7,6 +7,7 @@ ghost use Rattle.session_cells.specs.Changes.{entries_of};
 
 use crate::kept::KeptTunnel;
 use crate::table::Tunnels;
+use crate::unlocked::Unlocked;
 use end_model::{Config, Role};
 use session_cells::{CellSeen, Cells};
 use std::alloc::Global;
@@ -18,12 +19,14 @@ use wire_base::{Bytes, NoMemory};
 const CELLS: u32 = 65_536;
 
 /// What threads share of an end: a cell for each session id, the table of its tunnels, each tunnel, and the hub, each but the cells
-/// behind its lock. The words of the two locks that each control turn writes stand apart from what frames read.
+/// behind its lock, and what threads tell one another without a lock. The words that each control turn writes stand apart from what frames
+/// read.
 #[derive(Drop)]
 pub struct Locked<H: Hub> {
     pub cells: Cells,
     pub(crate) tunnels: Box<Mutex<Tunnels>>,
     pub(crate) hub: Box<Mutex<H>>,
+    pub(crate) unlocked: Box<Unlocked>,
     /// What the hub told its end when it was put behind its lock: it never tells anything else.
     pub(crate) config: Config,
     pub ghost all: { count_of cells ≡ 65536 },
@@ -62,6 +65,9 @@ impl<H: Hub> Locked<H> {
         let Ok(tunnels) = boxed_table(alloc, role, lns) else {
             return Err(hub);
         };
+        let Ok(unlocked) = Box::new(alloc, Unlocked::new()) else {
+            return Err(hub);
+        };
         let Ok(config) = copy_config(alloc, hub.config()) else {
             return Err(hub);
         };
@@ -71,6 +77,7 @@ impl<H: Hub> Locked<H> {
                     cells,
                     tunnels,
                     hub,
+                    unlocked,
                     config,
                 },
                 seen,
@@ -88,7 +95,10 @@ impl<H: Hub> Locked<H> {
         ensures entered { AllEntered (log_of seen.old) (entries_of kept.changes) (log_of seen.new) }
     {
         self.cells.enter_all(seen, kept.changes());
-        self.tunnels.get_mut().insert(kept)
+        let tunnels = self.tunnels.get_mut();
+        tunnels.insert(kept)?;
+        self.unlocked.lower(tunnels.take_due());
+        Ok(())
     }
 
     /// The hub, once no other thread has what is shared. It takes no memory.

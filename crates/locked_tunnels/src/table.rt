@@ -17,6 +17,7 @@ use end_model::Role;
 use id_table::Table;
 use std::alloc::Global;
 use std::marker::Model;
+use std::mem;
 use std::sync::{Arc, Mutex};
 use tunnel_listing::{Directory, Listed};
 use wire_base::NoMemory;
@@ -32,6 +33,8 @@ pub struct Place {
 pub struct Tunnels {
     directory: Directory,
     places: Table<Place>,
+    /// A moment before which no tick does anything for those that were put since it was taken out, in milliseconds.
+    due: u64,
 }
 
 impl Model for Tunnels {
@@ -56,6 +59,7 @@ impl Tunnels {
         Ok(Tunnels {
             directory: Directory::new(alloc, role, lns)?,
             places: Table::new(alloc),
+            due: u64::MAX,
         })
     }
 
@@ -96,13 +100,15 @@ impl Tunnels {
         self.places.make_room(u32::from(id))
     }
 
-    /// Puts a tunnel at an id that has room, listed as it was after so many of its turns.
-    pub(crate) fn put(&mut self, id: u16, listed: Listed, turns: u64, place: Place)
+    /// Puts a tunnel at an id that has room, listed as it was after so many of its turns. Before this moment, in milliseconds, no tick does
+    /// anything for it.
+    pub(crate) fn put(&mut self, id: u16, listed: Listed, turns: u64, due: u64, place: Place)
         requires { HasRoom self.old.directory.places id × HasRoom self.old.places id }
         ensures role { self.new.directory.role ≡ self.old.directory.role }
         ensures lns { self.new.directory.lns ≡ self.old.directory.lns }
         ensures listed { self.new.directory.places.entries ≡ put self.old.directory.places.entries id (record { listed = listed; turns = turns }) }
     {
+        self.due = self.due.min(due);
         self.directory.put(id, listed, turns);
         self.places.fill(u32::from(id), place);
     }
@@ -118,11 +124,18 @@ impl Tunnels {
     {
         let id = kept.core().control().local;
         let listed = listed_of(kept.core());
-        let turns = kept.turns();
+        let (turns, due) = (kept.turns(), kept.due());
         let tunnel = Arc::new(self.directory.alloc(), Mutex::new(kept))?;
         self.make_room(id, listed)?;
-        self.put(id, listed, turns, Place { tunnel });
+        self.put(id, listed, turns, due, Place { tunnel });
         Ok(())
+    }
+
+    /// A moment before which no tick does anything for those that were put since it was taken out last, in milliseconds.
+    pub(crate) fn take_due(&mut self) -> u64
+        ensures { self.new ≡ self.old }
+    {
+        mem::replace(&mut self.due, u64::MAX)
     }
 
     /// Lists the tunnel with this id anew, as it was after so many of its turns, unless it was listed after more of them, and notes the

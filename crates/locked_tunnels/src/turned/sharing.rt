@@ -153,13 +153,13 @@ fn make_first<H: Hub>(
         hub.back(env);
         return Err(StepError::NoMemory);
     };
-    let outputs = settle(&mut kept, hub, env, planned)?;
+    let outputs = settle(&mut kept, hub, env, Some(planned))?;
     enter_first(cells, seen, local, kept.changes());
     if stands {
-        let (listed, turns) = (listed_of(kept.core()), kept.turns());
+        let (listed, turns, due) = (listed_of(kept.core()), kept.turns(), kept.due());
         table.note(local, kept.added());
         *lock.get_mut() = kept;
-        table.put(local, listed, turns, Place { tunnel });
+        table.put(local, listed, turns, due, Place { tunnel });
     }
     Ok(outputs)
 }

@@ -1,6 +1,6 @@
 use Rattle.session_cells.specs.Tokens.{Later}
 use Rattle.locked_tunnels.specs.Turns.{AreTicks}
-use Rattle.locked_tunnels.proofs.one.tick_all.Given as goal
+use Rattle.locked_tunnels.proofs.one.tick_each.Given as goal
 
 abbrev pub invariant-loop-id : goal.invariant-loop-id
 invariant-loop-id g l =
