@@ -2,3 +2,4 @@ pub mod Lists
 pub mod EachView
 pub mod ItemMoves
 pub mod FinishedMoves
+pub mod Opening

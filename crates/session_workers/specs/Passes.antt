@@ -3,6 +3,7 @@ use Rattle.std.specs.Prelude.{◌≡◌, ℕ, ◌-◌, ◌<◌, ◌≤◌, ◌^�
 use Rattle.crossbeam_queue.specs.Passes.{view, IsPassOf}
 use Rattle.crossbeam_queue.specs.Fifo.{Held}
 use Rattle.session_cells.specs.Tokens.{IsOf}
+use Rattle.step_hub.specs.declared.hub.Hub.{Ghosts}
 use Rattle.session_workers.specs.declared.views.ItemView.{ItemView}
 use Rattle.session_workers.specs.declared.views.FinishedView.{FinishedView}
 use Rattle.session_workers.specs.declared.item.Numbered.{Numbered}
@@ -39,11 +40,11 @@ abbrev pub got_of : Pass → List ℕ
 got_of p = (finished_of p).got
 
 -- it is a pass of these cells and queues
-pub record IsPassIn (shared : Shared) (p : Pass) : Type 0 where
-  pub cells : IsOf shared.cells p.seen
+pub record IsPassIn {H : Type 0} {G : Ghosts H} (shared : Shared H G) (p : Pass) : Type 0 where
+  pub cells : IsOf shared.locked.cells p.seen
   pub queue : IsPassOf shared.items p.items
   pub part : 0 < (items_of p).parts
-  pub row : (items_of p).row ≡ Some (name_in shared.cells.first.book)
+  pub row : (items_of p).row ≡ Some (name_in shared.locked.cells.first.book)
   pub finished : IsPassOf shared.finished p.finished
   pub finished_part : 0 < (finished_of p).parts
 
@@ -65,12 +66,12 @@ WasFull p = (length (known_of p) ≡ 2 ^ 64 - 1) ⊎ Held 1024 (Tells (items_of 
 
 -- What one call of a worker did to its pass. The queue was empty at one moment; or the item was put, at its number, this pass hadn't
 -- taken it, and what was seen is of these cells
-abbrev pub WorkedOne : Shared → Pass → Pass → Worked → Type 0
+abbrev pub WorkedOne : {H : Type 0} → {G : Ghosts H} → Shared H G → Pass → Pass → Worked → Type 0
 WorkedOne shared old new Empty = (items_of new ≡ items_of old) × Held 0 (Tells (items_of old))
 WorkedOne shared old new (Done f) =
     (0 < f.number) × (slice_get (known_of new) (f.number - 1) ≡ Some (numbered f.number f.item))
     × (taken_of new ≡ taken_of old ++ f.number ∷ []) × (times f.number (taken_of old) ≡ 0)
-    × IsOf shared.cells f.seen
+    × IsOf shared.locked.cells f.seen
 
 -- what a collection did to its pass
 abbrev pub CollectedOne : Pass → Pass → Option Finished → Type 0

@@ -1,25 +1,33 @@
 //! Items are put, worked, handed over and collected.
 
-ghost use Rattle.std.specs.Prelude.{◌≡◌, ◌+◌, ◌++◌, ◌∷◌, [], true, length, OnOk, IfErr};
+ghost use Rattle.std.specs.Prelude.{◌≡◌, ◌+◌, ◌++◌, ◌∷◌, [], true, length, Some, IfOk, OnOk, IfErr};
 ghost use mathlib.Core.List.{IsPrefix};
 ghost use Rattle.crossbeam_queue.specs.Fifo.{Held};
-ghost use Rattle.session_cells.specs.Tokens.{log_of, IsOf, Later, count_of};
-ghost use Rattle.data_plane.specs.Carries.{role_of, look_at, load_of};
+ghost use Rattle.session_cells.specs.Tokens.{log_of, IsOf, Later};
+ghost use Rattle.end_model.specs.declared.event.Event.TheVariants as events;
+ghost use Rattle.locked_tunnels.specs.Turns.{IsTurnOf};
+ghost use Rattle.session_workers.specs.Done.{carried_of, told_of, due_of};
+ghost use Rattle.data_plane.specs.Carries.{role_of, look_at, load_of, IsData};
 ghost use Rattle.session_workers.specs.Finishing.{Evens};
 ghost use Rattle.session_workers.specs.Passes.{items_of, finished_of, known_of, taken_of, gave_of, got_of, IsPassIn, IsOpener, numbered, WasFull, WorkedOne, CollectedOne};
 
-use crate::finished::{Finished, Worked};
+use crate::finished::{Done, Finished, Worked};
 use crate::finishing::{Gets, Gives};
 use crate::item::{Item, Numbered};
 use crate::items::{Puts, Takes};
 use crate::passes::PLACES;
 use crate::shared::{Full, Pass, Shared};
 use data_plane::{Carry, carry_in};
+use end_model::Event;
+use l2tp_datagram::Datagram;
 use l2tp_header::read_header;
-use session_cells::{CellSeen, Cells};
+use locked_tunnels::{Turned, turn_one};
+use session_cells::CellSeen;
 use std::sync::Wait;
+use step_hub::{Hub, StepError};
+use wire_base::Bytes;
 
-/// What is done before a worker judges an item, and after it.
+/// What is done before a worker makes something of an item, and after it.
 pub trait Gate {
     fn before(&self, number: u64);
 
@@ -29,10 +37,15 @@ pub trait Gate {
 /// Puts an item behind all others, and gives it the next number, from 1 on. `Full` comes only where the queue was full at some
 /// moment of the call, or every number of 64 bits was given. Conditions: the pass is the opener's, and the item's token tells of
 /// these cells what the pass has seen.
-pub fn put<W: Wait>(rt: &W, shared: &Shared, pass: &mut Pass, item: Item) -> Result<(), Full>
+pub fn put<W: Wait, H: Hub>(
+    rt: &W,
+    shared: &Shared<H>,
+    pass: &mut Pass,
+    item: Item,
+) -> Result<(), Full>
     requires of { IsPassIn shared.now pass.old }
     requires opener { IsOpener pass.old }
-    requires seen { IsOf shared.now.cells item.seen × (log_of item.seen ≡ log_of pass.old.seen) }
+    requires seen { IsOf shared.now.locked.cells item.seen × (log_of item.seen ≡ log_of pass.old.seen) }
     ensures of { IsPassIn shared.now pass.new × IsOpener pass.new }
     ensures same { (pass.new.seen ≡ pass.old.seen) × (taken_of pass.new ≡ taken_of pass.old) × (finished_of pass.new ≡ finished_of pass.old) × ((items_of pass.new).parts ≡ (items_of pass.old).parts) }
     ensures ok { OnOk result (known_of pass.new ≡ known_of pass.old ++ numbered (length (known_of pass.old) + 1) item ∷ []) }
@@ -60,22 +73,65 @@ pub fn put<W: Wait>(rt: &W, shared: &Shared, pass: &mut Pass, item: Item) -> Res
     }
 }
 
-/// What becomes of a datagram by the cell of the session that its header names, and nothing for a control message.
-#[tactic(auto, unfolding(data_plane::specs::Carries::load_by))]
-fn judge(cells: &Cells, seen: &mut CellSeen, lns: bool, peer: u32, datagram: &[u8]) -> Option<Carry>
-    requires of { IsOf cells.now seen.old }
-    ensures later { Later cells.now seen.old seen.new }
-    ensures exact { result ≡ load_of (role_of lns) (look_at (count_of cells.now) (log_of seen.new)) peer datagram.now }
+/// The turn that a control message brings about.
+fn turn_for<W: Wait, H: Hub>(
+    rt: &W,
+    shared: &Shared<H>,
+    seen: &mut CellSeen,
+    item: &Item,
+) -> Result<Turned, StepError>
+    requires of { IsOf shared.now.locked.cells seen.old }
+    ensures later { Later shared.now.locked.cells seen.old seen.new }
+    ensures told { IfOk result (λ t. IsTurnOf (events.Datagram item.entry.now.peer item.entry.now.bytes) item.entry.now.now item.entry.now.block t) }
 {
-    match read_header(datagram) {
-        Ok(header) if header.control => None,
-        _ => Some(carry_in(cells, seen, lns, peer, datagram)),
+    let alloc = item.bytes.allocator();
+    let bytes = Bytes::from_slice(alloc, item.bytes.as_slice())?;
+    let event = Event::Datagram {
+        peer: item.peer,
+        datagram: Datagram::read(alloc, bytes),
+    };
+    turn_one(rt, &shared.locked, seen, item.now, item.block, &event)
+}
+
+/// What becomes of a data message by the cell of the session that its header names.
+fn judge<H: Hub>(shared: &Shared<H>, seen: &mut CellSeen, item: &Item) -> Carry
+    requires of { IsOf shared.now.locked.cells seen.old }
+    requires data { IsData item.now.bytes }
+    ensures later { Later shared.now.locked.cells seen.old seen.new }
+    ensures exact { load_of (role_of item.entry.now.lns) (look_at 65536 (log_of seen.new)) item.entry.now.peer item.entry.now.bytes ≡ Some result }
+{
+    let datagram = item.bytes.as_slice();
+    carry_in(&shared.locked.cells, seen, item.lns, item.peer, datagram)
+}
+
+/// What becomes of an item: a control message brings about a turn, and all else is judged by the cell of the session that its header
+/// names.
+#[tactic(auto, unfolding(data_plane::specs::Carries::load_by))]
+fn finish<W: Wait, H: Hub>(rt: &W, shared: &Shared<H>, seen: &mut CellSeen, item: &Item) -> Done
+    requires of { IsOf shared.now.locked.cells seen.old }
+    ensures later { Later shared.now.locked.cells seen.old seen.new }
+    ensures load { carried_of result ≡ load_of (role_of item.entry.now.lns) (look_at 65536 (log_of seen.new)) item.entry.now.peer item.entry.now.bytes }
+    ensures turn { told_of result ≡ due_of result item.entry.now }
+{
+    match read_header(item.bytes.as_slice()) {
+        Ok(header) if header.control => match turn_for(rt, shared, seen, item) {
+            Ok(turned) => Done::Turned { turned },
+            Err(error) => Done::Failed { error },
+        },
+        _ => Done::Carried {
+            carry: judge(shared, seen, item),
+        },
     }
 }
 
-/// Takes the item that waits longest, and judges it by the cells as its caller had seen them, or later. `Empty` comes only where
-/// no item waited at some moment of the call.
-pub fn work_one<W: Wait, G: Gate>(rt: &W, shared: &Shared, pass: &mut Pass, gate: &G) -> Worked
+/// Takes the item that waits longest: a data message is judged by the cells as its caller had seen them, or later, and a control message
+/// brings about its turn. `Empty` comes only where no item waited at some moment of the call.
+pub fn work_one<W: Wait, H: Hub, G: Gate>(
+    rt: &W,
+    shared: &Shared<H>,
+    pass: &mut Pass,
+    gate: &G,
+) -> Worked
     requires of { IsPassIn shared.now pass.old }
     ensures of { IsPassIn shared.now pass.new }
     ensures same { (pass.new.seen ≡ pass.old.seen) × ((items_of pass.new).parts ≡ (items_of pass.old).parts) × ((items_of pass.new).opener ≡ (items_of pass.old).opener) × (finished_of pass.new ≡ finished_of pass.old) × (pass.new.puts ≡ pass.old.puts) }
@@ -88,27 +144,21 @@ pub fn work_one<W: Wait, G: Gate>(rt: &W, shared: &Shared, pass: &mut Pass, gate
     };
     let Numbered { number, item } = taken;
     gate.before(number);
-    let mut seen = shared.cells.seen_again(&item.seen);
-    let carry = judge(
-        &shared.cells,
-        &mut seen,
-        item.lns,
-        item.peer,
-        item.bytes.as_slice(),
-    );
+    let mut seen = shared.locked.cells.seen_again(&item.seen);
+    let done = finish(rt, shared, &mut seen, &item);
     gate.after(number);
     Worked::Done(Finished {
         number,
         item,
         seen,
-        carry,
+        done,
     })
 }
 
 /// Hands over what is finished. It comes back only where the second queue was full at some moment of the call.
-pub fn hand_over<W: Wait>(
+pub fn hand_over<W: Wait, H: Hub>(
     rt: &W,
-    shared: &Shared,
+    shared: &Shared<H>,
     pass: &mut Pass,
     finished: Finished,
 ) -> Result<(), Finished>
@@ -123,7 +173,7 @@ pub fn hand_over<W: Wait>(
 }
 
 /// Takes what was handed over first. Nothing comes only where nothing waited there at some moment of the call.
-pub fn collect<W: Wait>(rt: &W, shared: &Shared, pass: &mut Pass) -> Option<Finished>
+pub fn collect<W: Wait, H: Hub>(rt: &W, shared: &Shared<H>, pass: &mut Pass) -> Option<Finished>
     requires of { IsPassIn shared.now pass.old }
     ensures of { IsPassIn shared.now pass.new }
     ensures same { (pass.new.seen ≡ pass.old.seen) × (items_of pass.new ≡ items_of pass.old) × (gave_of pass.new ≡ gave_of pass.old) × ((finished_of pass.new).parts ≡ (finished_of pass.old).parts) × (pass.new.puts ≡ pass.old.puts) }

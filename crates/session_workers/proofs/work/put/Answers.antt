@@ -7,7 +7,7 @@ use Rattle.session_workers.proofs.work.put.Goals as goal
 pub push_as-requires-clause-rule : goal.push_as-requires-clause-rule
 push_as-requires-clause-rule g c =
     let x = numbered (c.args.pass.now.puts + 1) c.args.item in (
-      puts _ _ _ x c.requires.opener.opens (ap (λ (k : ℕ). k + 1) c.requires.opener.counts) (from_row _ c.args.shared.now.cells.first.book x c.requires.of.row c.requires.seen.0),
+      puts _ _ _ x c.requires.opener.opens (ap (λ (k : ℕ). k + 1) c.requires.opener.counts) (from_row _ c.args.shared.now.locked.cells.first.book x c.requires.of.row c.requires.seen.0),
       tells _ _,
     )
 

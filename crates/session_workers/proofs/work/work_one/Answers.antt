@@ -11,10 +11,10 @@ pub pop_as-requires-clause-rule : goal.pop_as-requires-clause-rule
 pop_as-requires-clause-rule g c = (takes _ _ c.requires.of.part, tells _ _)
 
 pub seen_again-seen-requires : goal.seen_again-seen-requires
-seen_again-seen-requires g c = same_row _ _ (c.in-Some.ensures.rule.0 (name_in c.args.shared.now.cells.first.book) c.requires.of.row)
+seen_again-seen-requires g c = same_row _ _ (c.in-Some.ensures.rule.0 (name_in c.args.shared.now.locked.cells.first.book) c.requires.of.row)
 
-pub judge-carry-requires : goal.judge-carry-requires
-judge-carry-requires g c = record { of = ap (λ s. s.seen.book) c.seen_again-seen.ensures ∙ same_row _ _ (c.in-Some.ensures.rule.0 (name_in c.args.shared.now.cells.first.book) c.requires.of.row) }
+pub finish-done-requires : goal.finish-done-requires
+finish-done-requires g c = record { of = ap (λ s. s.seen.book) c.seen_again-seen.ensures ∙ same_row _ _ (c.in-Some.ensures.rule.0 (name_in c.args.shared.now.locked.cells.first.book) c.requires.of.row) }
 
 pub returns-clause-worked : goal.returns-clause-worked
-returns-clause-worked g c = let h = c.in-Some.ensures.rule in (h.1, h.3, the_taken _ _ h.4, h.5, c.judge-carry.ensures.later.0)
+returns-clause-worked g c = let h = c.in-Some.ensures.rule in (h.1, h.3, the_taken _ _ h.4, h.5, c.finish-done.ensures.later.0)
