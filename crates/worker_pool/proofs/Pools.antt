@@ -3,6 +3,7 @@ use Rattle.std.proofs.Common.{◌≡◌, ℕ, ◌+◌, List, [], ◌∷◌, ◌+
 use Rattle.session_workers.specs.declared.finished.Finished.{Finished}
 use Rattle.session_workers.specs.declared.item.Numbered.{Numbered}
 use Rattle.session_workers.specs.declared.views.FinishedView.{FinishedView}
+use Rattle.step_hub.specs.declared.hub.Hub.{Ghosts}
 use Rattle.session_workers.specs.Items.{numbers_of}
 use Rattle.session_workers.specs.Lists.{times}
 use Rattle.session_workers.specs.Passes.{items_of, finished_of, known_of, taken_of, got_of, IsPassIn, IsOpener, EachOnce}
@@ -38,13 +39,13 @@ numbers_length [] = refl
 numbers_length (x ∷ xs) = let ih = numbers_length xs in omega arith
 
 -- and how many it took of them
-pub all_counted : (pool : Pool) (p : PoolPass) → IsCaller pool p → AllDone p → p.tally.taken ≡ capped (length (known_of p.pass))
+pub all_counted : {H : Type 0} {G : Ghosts H} (pool : Pool H G) (p : PoolPass) → IsCaller pool p → AllDone p → p.tally.taken ≡ capped (length (known_of p.pass))
 all_counted pool p caller done =
     tally_taken (taken_of p.pass) p.tally caller.member.tally
     ∙ ap capped (same_length (taken_of p.pass) (numbers_of (known_of p.pass)) done.0 ∙ numbers_length (known_of p.pass))
 
 -- a member that took one item more
-pub took_one : (pool : Pool) (old new : PoolPass) (f : Finished) → IsPassIn pool.shared new.pass → IsMember pool old
+pub took_one : {H : Type 0} {G : Ghosts H} (pool : Pool H G) (old new : PoolPass) (f : Finished) → IsPassIn pool.shared new.pass → IsMember pool old
     → taken_of new.pass ≡ taken_of old.pass ++ f.number ∷ [] → times f.number (taken_of old.pass) ≡ 0
     → finished_of new.pass ≡ finished_of old.pass → new.collected ≡ old.collected → new.tally ≡ counted old.tally f → IsMember pool new
 took_one pool old new f of member taken none finished collected tally = record {
@@ -55,7 +56,7 @@ took_one pool old new f of member taken none finished collected tally = record {
 }
 
 -- the calling thread's, where what was put is as before
-pub still_caller : (pool : Pool) (old new : PoolPass) → IsMember pool new → IsCaller pool old → known_of new.pass ≡ known_of old.pass
+pub still_caller : {H : Type 0} {G : Ghosts H} (pool : Pool H G) (old new : PoolPass) → IsMember pool new → IsCaller pool old → known_of new.pass ≡ known_of old.pass
     → (items_of new.pass).opener ≡ (items_of old.pass).opener → new.pass.puts ≡ old.pass.puts → new.puts ≡ old.puts → IsCaller pool new
 still_caller pool old new member caller known opener inner puts =
     let same : length (known_of old.pass) ≡ length (known_of new.pass) = ap (λ (xs : List Numbered). length xs) (sym known) in
@@ -66,7 +67,7 @@ still_caller pool old new member caller known opener inner puts =
     }
 
 -- a member to which another's pass came back
-pub both_members : (pool : Pool) (old other new : PoolPass) → IsPassIn pool.shared new.pass → EachOnce (taken_of new.pass) → IsMember pool old → IsMember pool other
+pub both_members : {H : Type 0} {G : Ghosts H} (pool : Pool H G) (old other new : PoolPass) → IsPassIn pool.shared new.pass → EachOnce (taken_of new.pass) → IsMember pool old → IsMember pool other
     → taken_of new.pass ≡ taken_of old.pass ++ taken_of other.pass → got_of new.pass ≡ got_of old.pass ++ got_of other.pass
     → new.collected ≡ capped (old.collected + other.collected) → new.tally ≡ added old.tally other.tally → IsMember pool new
 both_members pool old other new of once mine theirs taken got collected tally = record {
@@ -78,7 +79,7 @@ both_members pool old other new of once mine theirs taken got collected tally = 
 }
 
 -- by counts that don't stand still, as many items were worked or collected as were put
-pub even_ends : (pool : Pool) (p q : PoolPass) → IsCaller pool p → IsCaller pool q → IsEven (counts_of p) (counts_of q)
+pub even_ends : {H : Type 0} {G : Ghosts H} (pool : Pool H G) (p q : PoolPass) → IsCaller pool p → IsCaller pool q → IsEven (counts_of p) (counts_of q)
     → ends_of p + length (known_of q.pass) ≡ ends_of q + length (known_of p.pass)
 even_ends pool p q before after even =
     let a = tally_taken (taken_of p.pass) p.tally before.member.tally in

@@ -1,6 +1,7 @@
 -- What a clause says of a pool and its passes.
 use Rattle.std.specs.Prelude.{◌≡◌, ℕ, ◌+◌, [], ◌∷◌, ◌++◌, length, Option, Some, None}
 use Rattle.crossbeam_queue.specs.Fifo.{Held}
+use Rattle.step_hub.specs.declared.hub.Hub.{Ghosts}
 use Rattle.session_workers.specs.Items.{Tells, all_parts, numbers_of}
 use Rattle.session_workers.specs.Finishing.{Evens}
 use Rattle.session_workers.specs.Lists.{times}
@@ -15,14 +16,14 @@ abbrev pub ends_of : PoolPass → ℕ
 ends_of p = length (taken_of p.pass) + length (got_of p.pass)
 
 -- It is a pass of the pool. Its tally counts what it took, each once, and it knows how many it collected
-pub record IsMember (pool : Pool) (p : PoolPass) : Type 0 where
+pub record IsMember {H : Type 0} {G : Ghosts H} (pool : Pool H G) (p : PoolPass) : Type 0 where
   pub of : IsPassIn pool.shared p.pass
   pub once : EachOnce (taken_of p.pass)
   pub tally : IsTallyOf (taken_of p.pass) p.tally
   pub collected : p.collected ≡ capped (length (got_of p.pass))
 
 -- it is the pass of the calling thread, which alone puts, and knows how many it put
-pub record IsCaller (pool : Pool) (p : PoolPass) : Type 0 where
+pub record IsCaller {H : Type 0} {G : Ghosts H} (pool : Pool H G) (p : PoolPass) : Type 0 where
   pub member : IsMember pool p
   pub opener : IsOpener p.pass
   pub puts : p.puts ≡ length (known_of p.pass)

@@ -3,6 +3,7 @@ use Rattle.std.specs.Prelude.{◌≡◌, ℕ, ◌+◌, ◌-◌, ◌^◌, min, Li
 use Rattle.data_plane.specs.declared.carry.Carry.{Carry}
 use Rattle.data_plane.specs.declared.carry.Carry.TheVariants.{Up, Dropped}
 use Rattle.session_workers.specs.declared.finished.Finished.{Finished}
+use Rattle.session_workers.specs.Done.{carried_of}
 use Rattle.session_workers.specs.Finishing.{finished_numbers}
 use Rattle.session_workers.specs.Lists.{total}
 use Rattle.worker_pool.specs.declared.tally.Tally.{Tally}
@@ -24,10 +25,10 @@ dropped_in (Some (Dropped why)) = 1
 dropped_in None = 0
 
 abbrev pub up_of : Finished → ℕ
-up_of f = up_in f.carry
+up_of f = up_in (carried_of f.done)
 
 abbrev pub dropped_of : Finished → ℕ
-dropped_of f = dropped_in f.carry
+dropped_of f = dropped_in (carried_of f.done)
 
 abbrev pub tally_of : List Finished → Tally
 tally_of fs = record { taken = capped (length fs); up = capped (total up_of fs); dropped = capped (total dropped_of fs) }

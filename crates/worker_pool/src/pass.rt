@@ -7,6 +7,7 @@ ghost use Rattle.worker_pool.specs.Pools.{IsMember, IsCaller};
 use crate::pool::Pool;
 use crate::tally::Tally;
 use session_workers::{Pass, join_pass, split_pass};
+use step_hub::Hub;
 
 /// A pass of the cells and queues, with what it did: how many items it put and collected, and what became of those that it took. What
 /// passes count that come back is added.
@@ -19,7 +20,7 @@ pub struct PoolPass {
 }
 
 /// A pass for another worker, which took nothing.
-pub(crate) fn split_off(pool: &Pool, pass: &mut PoolPass) -> PoolPass
+pub(crate) fn split_off<H: Hub>(pool: &Pool<H>, pass: &mut PoolPass) -> PoolPass
     requires of { IsCaller pool.now pass.old }
     requires parts { (1 < (items_of pass.old.pass).parts) × (1 < (finished_of pass.old.pass).parts) }
     ensures of { IsCaller pool.now pass.new × IsMember pool.now result }
@@ -37,7 +38,7 @@ pub(crate) fn split_off(pool: &Pool, pass: &mut PoolPass) -> PoolPass
 }
 
 /// A worker's pass comes back, with what it counted.
-pub(crate) fn join_back(pool: &Pool, pass: &mut PoolPass, other: PoolPass)
+pub(crate) fn join_back<H: Hub>(pool: &Pool<H>, pass: &mut PoolPass, other: PoolPass)
     requires of { IsCaller pool.now pass.old × IsMember pool.now other }
     ensures of { IsCaller pool.now pass.new }
     ensures parts { ((items_of pass.new.pass).parts ≡ (items_of pass.old.pass).parts + (items_of other.pass).parts) × ((finished_of pass.new.pass).parts ≡ (finished_of pass.old.pass).parts + (finished_of other.pass).parts) }

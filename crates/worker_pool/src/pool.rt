@@ -10,17 +10,18 @@ use crate::tally::Tally;
 use session_workers::{Pass, Shared};
 use std::sync::atomic::AtomicU64;
 use std::sync::atomic::Ordering::SeqCst;
+use step_hub::Hub;
 
-/// What the threads of a pool share: cells and queues, a bell for workers that sleep, and whether it is closed.
+/// What the threads of a pool share: an end's tunnels, cells and hub, queues, a bell for workers that sleep, and whether it is closed.
 #[derive(Drop)]
-pub struct Pool {
-    pub shared: Shared,
+pub struct Pool<H: Hub> {
+    pub shared: Shared<H>,
     pub(crate) bell: Bell,
     closed: AtomicU64,
 }
 
 /// A pool over queues that were just opened, and the opener's pass. It takes no memory.
-pub fn open_pool(shared: Shared, pass: Pass) -> (Pool, PoolPass)
+pub fn open_pool<H: Hub>(shared: Shared<H>, pass: Pass) -> (Pool<H>, PoolPass)
     requires of { IsPassIn shared pass × IsOpener pass }
     requires none { (known_of pass ≡ []) × (taken_of pass ≡ []) × (got_of pass ≡ []) }
     ensures of { IsCaller result.0 result.1 }
@@ -41,9 +42,9 @@ pub fn open_pool(shared: Shared, pass: Pass) -> (Pool, PoolPass)
     )
 }
 
-impl Pool {
-    /// The cells and the queues.
-    pub fn into_shared(self) -> Shared
+impl<H: Hub> Pool<H> {
+    /// The end's tunnels, cells and hub, and the queues.
+    pub fn into_shared(self) -> Shared<H>
         ensures { result ≡ self.shared }
     {
         self.shared

@@ -17,11 +17,12 @@ use session_workers::{Finished, Gate, Worked};
 use std::sync::Wait;
 use std::thread;
 use std::thread::{Threads, join_mut};
+use step_hub::Hub;
 
 /// Works an item, or else collects one. Nothing comes only where neither queue held any at some moment of the call.
-fn find_one<W: Wait, G: Gate>(
+fn find_one<W: Wait, H: Hub, G: Gate>(
     rt: &W,
-    pool: &Pool,
+    pool: &Pool<H>,
     pass: &mut PoolPass,
     gate: &G,
 ) -> Option<Finished>
@@ -37,9 +38,9 @@ fn find_one<W: Wait, G: Gate>(
 }
 
 /// Serves, and then works and collects until as many items were given as were put. Then it closes the pool.
-fn attend<W: Wait, G: Gate, V: Serving>(
+fn attend<W: Wait, H: Hub, G: Gate, V: Serving<H>>(
     rt: &W,
-    pool: &Pool,
+    pool: &Pool<H>,
     pass: &mut PoolPass,
     gate: &G,
     serving: &mut V,
@@ -66,9 +67,9 @@ fn attend<W: Wait, G: Gate, V: Serving>(
 
 /// Runs so many workers, each in a thread of its own, and the calling thread beside them. Where no thread can be made the calling thread
 /// comes first: then it does all by itself, and the workers find the pool closed.
-fn run_beside<R: Threads + Wait + Sync, G: Gate + Sync, V: Serving>(
+fn run_beside<R: Threads + Wait + Sync, H: Hub + Send, G: Gate + Sync, V: Serving<H>>(
     rt: &R,
-    pool: &Pool,
+    pool: &Pool<H>,
     pass: &mut PoolPass,
     workers: u32,
     gate: &G,
@@ -102,9 +103,9 @@ fn run_beside<R: Threads + Wait + Sync, G: Gate + Sync, V: Serving>(
 }
 
 /// Works and collects what is left, which is nothing, as far as the threads that ended tell.
-fn settle<W: Wait, G: Gate, V: Serving>(
+fn settle<W: Wait, H: Hub, G: Gate, V: Serving<H>>(
     rt: &W,
-    pool: &Pool,
+    pool: &Pool<H>,
     pass: &mut PoolPass,
     gate: &G,
     serving: &mut V,
@@ -133,9 +134,9 @@ fn settle<W: Wait, G: Gate, V: Serving>(
 /// Runs so many workers beside the calling thread, which serves, and then works and collects until each item that was put is finished.
 /// Workers for whom nothing waits sleep. All that any of them took is counted, each item once: where no other pass is about, that is
 /// all that was put. Condition: the pass is the calling thread's, and has a part for each worker and one for itself.
-pub fn pool_run<R: Threads + Wait + Sync, G: Gate + Sync, V: Serving>(
+pub fn pool_run<R: Threads + Wait + Sync, H: Hub + Send, G: Gate + Sync, V: Serving<H>>(
     rt: &R,
-    pool: &Pool,
+    pool: &Pool<H>,
     pass: &mut PoolPass,
     workers: u32,
     gate: &G,

@@ -10,13 +10,19 @@ use crate::pool::Pool;
 use session_workers::{Finished, Full, Gate, Item, Worked};
 use std::sync::Wait;
 use std::thread;
+use step_hub::Hub;
 
 /// Puts an item behind all others, gives it the next number, from 1 on, and wakes a worker where one sleeps. `Full` comes only where the
 /// queue was full at some moment of the call, or every number of 64 bits was given. Conditions: the pass is the calling thread's, and
 /// the item's token tells of these cells what the pass has seen.
-pub fn put<W: Wait>(rt: &W, pool: &Pool, pass: &mut PoolPass, item: Item) -> Result<(), Full>
+pub fn put<W: Wait, H: Hub>(
+    rt: &W,
+    pool: &Pool<H>,
+    pass: &mut PoolPass,
+    item: Item,
+) -> Result<(), Full>
     requires of { IsCaller pool.now pass.old }
-    requires seen { IsOf pool.now.shared.cells item.seen × (log_of item.seen ≡ log_of pass.old.pass.seen) }
+    requires seen { IsOf pool.now.shared.locked.cells item.seen × (log_of item.seen ≡ log_of pass.old.pass.seen) }
     ensures of { IsCaller pool.now pass.new }
     ensures same { (pass.new.pass.seen ≡ pass.old.pass.seen) × (taken_of pass.new.pass ≡ taken_of pass.old.pass) × (finished_of pass.new.pass ≡ finished_of pass.old.pass) × HasParts pass.old pass.new }
     ensures ok { OnOk result (known_of pass.new.pass ≡ known_of pass.old.pass ++ numbered (length (known_of pass.old.pass) + 1) item ∷ []) }
@@ -34,9 +40,14 @@ pub fn put<W: Wait>(rt: &W, pool: &Pool, pass: &mut PoolPass, item: Item) -> Res
     Ok(())
 }
 
-/// Takes the item that waits longest, judges it by the cells as its caller had seen them, or later, and counts it. `Empty` comes only
-/// where no item waited at some moment of the call.
-pub fn work_one<W: Wait, G: Gate>(rt: &W, pool: &Pool, pass: &mut PoolPass, gate: &G) -> Worked
+/// Takes the item that waits longest, and counts it: a data message is judged by the cells as its caller had seen them, or later, and a
+/// control message brings about its turn. `Empty` comes only where no item waited at some moment of the call.
+pub fn work_one<W: Wait, H: Hub, G: Gate>(
+    rt: &W,
+    pool: &Pool<H>,
+    pass: &mut PoolPass,
+    gate: &G,
+) -> Worked
     requires of { IsMember pool.now pass.old }
     ensures of { IsMember pool.now pass.new }
     ensures caller { IsCaller pool.now pass.old → IsCaller pool.now pass.new × (known_of pass.new.pass ≡ known_of pass.old.pass) }
@@ -53,7 +64,7 @@ pub fn work_one<W: Wait, G: Gate>(rt: &W, pool: &Pool, pass: &mut PoolPass, gate
 }
 
 /// Takes what was handed over first, and counts it. Nothing comes only where nothing waited there at some moment of the call.
-pub fn collect<W: Wait>(rt: &W, pool: &Pool, pass: &mut PoolPass) -> Option<Finished>
+pub fn collect<W: Wait, H: Hub>(rt: &W, pool: &Pool<H>, pass: &mut PoolPass) -> Option<Finished>
     requires of { IsMember pool.now pass.old }
     ensures of { IsMember pool.now pass.new }
     ensures caller { IsCaller pool.now pass.old → IsCaller pool.now pass.new }
@@ -66,7 +77,12 @@ pub fn collect<W: Wait>(rt: &W, pool: &Pool, pass: &mut PoolPass) -> Option<Fini
 }
 
 /// Hands over what is finished, and waits for room.
-pub(crate) fn hand_over<W: Wait>(rt: &W, pool: &Pool, pass: &mut PoolPass, finished: Finished)
+pub(crate) fn hand_over<W: Wait, H: Hub>(
+    rt: &W,
+    pool: &Pool<H>,
+    pass: &mut PoolPass,
+    finished: Finished,
+)
     requires of { IsMember pool.now pass.old }
     ensures of { IsMember pool.now pass.new }
     ensures same { (items_of pass.new.pass ≡ items_of pass.old.pass) × (got_of pass.new.pass ≡ got_of pass.old.pass) × HasParts pass.old pass.new }

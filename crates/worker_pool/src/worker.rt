@@ -9,9 +9,15 @@ use crate::pool::Pool;
 use crate::work::{hand_over, work_one};
 use session_workers::{Finished, Gate, Worked};
 use std::sync::Wait;
+use step_hub::Hub;
 
 /// Looks once more, as one that has entered, and sleeps where it found nothing and the pool isn't closed. Then an item may wait again.
-fn rest<W: Wait, G: Gate>(rt: &W, pool: &Pool, pass: &mut PoolPass, gate: &G) -> Option<Finished>
+fn rest<W: Wait, H: Hub, G: Gate>(
+    rt: &W,
+    pool: &Pool<H>,
+    pass: &mut PoolPass,
+    gate: &G,
+) -> Option<Finished>
     requires { IsMember pool.now pass.old }
     ensures of { IsMember pool.now pass.new }
     ensures same { (finished_of pass.new.pass ≡ finished_of pass.old.pass) × HasParts pass.old pass.new }
@@ -32,7 +38,12 @@ fn rest<W: Wait, G: Gate>(rt: &W, pool: &Pool, pass: &mut PoolPass, gate: &G) ->
 }
 
 /// Works the next item, for which it waits. Nothing comes where the pool is closed and no item waits.
-fn next<W: Wait, G: Gate>(rt: &W, pool: &Pool, pass: &mut PoolPass, gate: &G) -> Option<Finished>
+fn next<W: Wait, H: Hub, G: Gate>(
+    rt: &W,
+    pool: &Pool<H>,
+    pass: &mut PoolPass,
+    gate: &G,
+) -> Option<Finished>
     requires { IsMember pool.now pass.old }
     ensures of { IsMember pool.now pass.new }
     ensures same { (finished_of pass.new.pass ≡ finished_of pass.old.pass) × HasParts pass.old pass.new }
@@ -54,7 +65,12 @@ fn next<W: Wait, G: Gate>(rt: &W, pool: &Pool, pass: &mut PoolPass, gate: &G) ->
 }
 
 /// Works items and hands each over, until the pool is closed and none waits.
-pub(crate) fn work_on<W: Wait, G: Gate>(rt: &W, pool: &Pool, pass: &mut PoolPass, gate: &G)
+pub(crate) fn work_on<W: Wait, H: Hub, G: Gate>(
+    rt: &W,
+    pool: &Pool<H>,
+    pass: &mut PoolPass,
+    gate: &G,
+)
     requires of { IsMember pool.now pass.old }
     requires even { gave_of pass.old.pass ≡ taken_of pass.old.pass }
     ensures of { IsMember pool.now pass.new }

@@ -3,7 +3,7 @@ use Rattle.worker_pool.proofs.Pools.{both_members, still_caller}
 use Rattle.worker_pool.proofs.pass.join_back.Goals as goal
 
 pub returns-clause-of : goal.returns-clause-of
-returns-clause-of c =
+returns-clause-of g c =
     let j = c.join_pass.ensures in
     let mine = c.requires.of.0 in
     still_caller _ c.args.pass.now _
