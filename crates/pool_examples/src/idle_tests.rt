@@ -1,15 +1,17 @@
 //! Workers for whom nothing waits take no processor time.
 
 use crate::gates::Open;
+use crate::pools::open;
 use libc::types::timespec;
 use libc::{CLOCK_PROCESS_CPUTIME_ID, clock_gettime};
-use session_workers::{Finished, open_shared};
+use session_workers::Finished;
 use std::process::Abort;
 use std::sync::Wait;
 use std::test::*;
 use std::thread;
 use std::time::{Clock, Duration};
-use worker_pool::{Pool, PoolPass, Serving, open_pool, pool_run};
+use step_hub::Hub;
+use worker_pool::{Pool, PoolPass, Serving, pool_run};
 
 /// The processor time that this process took, in milliseconds.
 fn processor_time() -> Option<u64> {
@@ -37,7 +39,7 @@ struct Still<'a, C: Clock> {
     given: u64,
 }
 
-impl<'a, C: Clock> Serving for Still<'a, C> {
+impl<'a, H: Hub, C: Clock> Serving<H> for Still<'a, C> {
     ghost use Rattle.std.specs.Prelude.{⊤};
 
     ghost given = { λ s. s.given };
@@ -46,7 +48,7 @@ impl<'a, C: Clock> Serving for Still<'a, C> {
 
     ghost serves = { λ before after. ⊤ };
 
-    fn serve<W: Wait>(&mut self, _rt: &W, _pool: &Pool, _pass: &mut PoolPass) {
+    fn serve<W: Wait>(&mut self, _rt: &W, _pool: &Pool<H>, _pass: &mut PoolPass) {
         let before = processor_time();
         thread::sleep(self.clock, Duration::from_millis(1_000));
         let after = processor_time();
@@ -56,7 +58,7 @@ impl<'a, C: Clock> Serving for Still<'a, C> {
     fn finished<W: Wait>(
         &mut self,
         rt: &W,
-        _pool: &Pool,
+        _pool: &Pool<H>,
         _pass: &mut PoolPass,
         _finished: Finished,
     ) {
@@ -71,8 +73,7 @@ impl<'a, C: Clock> Serving for Still<'a, C> {
 
 #[test]
 fn idle_workers_sleep(rt: HostRuntime) -> Result<(), Fail> {
-    let (shared, pass) = open_shared(rt.alloc())?;
-    let (pool, mut pass) = open_pool(shared, pass);
+    let (pool, mut pass) = open(rt.alloc(), false)?;
     let mut still = Still {
         clock: &rt,
         spent: None,

@@ -6,7 +6,7 @@ use Rattle.pool_examples.proofs.batch.Batch.put_item.Given as goal
 
 abbrev pub invariant-loop : goal.invariant-loop
 invariant-loop g l =
-    IsCaller l.pool l.pass × IsOf l.pool.shared.cells l.waiting.seen × (log_of l.waiting.seen ≡ log_of l.pass.pass.seen)
+    IsCaller l.pool l.pass × IsOf l.pool.shared.locked.cells l.waiting.seen × (log_of l.waiting.seen ≡ log_of l.pass.pass.seen)
     × (gave_of l.pass.pass ≡ gave_of l.fn.pass.pass) × HasParts l.fn.pass l.pass
     × (l.self.given + ends_of l.fn.pass ≡ l.fn.self.given + ends_of l.pass)
     × (l.self.puts + length (known_of l.fn.pass.pass) ≡ l.fn.self.puts + length (known_of l.pass.pass))
