@@ -1,6 +1,7 @@
 -- Each move keeps the rule of the queue.
-use Rattle.std.proofs.Common.{◌≡◌, ◌≢◌, ℕ, suc, ◌+◌, ◌-◌, ◌<◌, ◌≤◌, true, false, true≢false, List, [], ◌∷◌, ◌++◌, length, slice_set, slice_get, Option, Some, None, refl, ap, sym, ◌∙◌, subst, append_assoc, length-append, arith, ⊎_elim}
+use Rattle.std.proofs.Common.{◌≡◌, ◌≢◌, ℕ, suc, ◌+◌, ◌-◌, ◌<◌, ◌≤◌, true, false, true≢false, List, [], ◌∷◌, ◌++◌, length, slice_set, slice_get, All, Option, Some, None, refl, ap, sym, ◌∙◌, subst, append_assoc, length-append, arith, ⊎_elim}
 use Rattle.std.proofs.lemmas.List.{append-nil, length-map, map-append}
+use Rattle.std.proofs.lemmas.List.Elements.{All-nil, All-push, All-append, All-weaker}
 use mathlib.Core.Option.{some}
 use lib.ListN.{get_elem?}
 use Rattle.crossbeam_queue.specs.Fifo.{Pushes, Pops, Forks, Merges, Learns}
@@ -10,21 +11,32 @@ use Rattle.session_workers.specs.declared.item.Numbered.{Numbered}
 use Rattle.session_workers.specs.declared.views.ItemView.{ItemView}
 use Rattle.session_workers.specs.declared.views.RowName.{RowName}
 use Rattle.session_workers.specs.Lists.{total, times, count_up}
-use Rattle.session_workers.specs.Items.{numbers_of, item_view, first_view, spent_view, named_view, splitting_view, worker_view, joined_view, name_in, IsFrom, Fits, IsKept, PutsOne, TakesOne, Tells, TookOnce}
-use Rattle.session_workers.proofs.Lists.{total_set, total_snoc, total_least, total_alone, times-append, times_own, times_once, count_up-snoc, count_up_at, get_middle, get_snoc, prefix_self, prefix_grow}
+use Rattle.session_workers.specs.Items.{numbers_of, item_view, first_view, spent_view, named_view, splitting_view, worker_view, joined_view, name_in, IsFrom, IsPut, Fits, IsKept, PutsOne, TakesOne, Tells, TookOnce}
+use Rattle.session_workers.proofs.Lists.{total_set, total_snoc, total_least, total_alone, times-append, times_own, times_once, count_up-snoc, count_up_at, get_middle, get_snoc, get_further, prefix_self, prefix_grow}
 use Rattle.session_workers.proofs.EachView.{each_set, each_snoc, each_alone}
 
 abbrev Idle : ℕ → ItemView → Type 0
 Idle pass v = v.parts ≡ 0 → v.taken ≡ []
 
 abbrev took : ℕ → ItemView → ℕ
-took n v = times n v.taken
+took n v = times n (numbers_of v.taken)
 
 abbrev parts : ItemView → ℕ
 parts v = v.parts
 
+-- what was put stays put
+put_grow : (put more : List Numbered) (x : Numbered) → IsPut put x → IsPut (put ++ more) x
+put_grow put more x h = (h.0, get_further put more (x.number - 1) x h.1)
+
+all_grow : (put more xs : List Numbered) → All (IsPut put) xs → All (IsPut (put ++ more)) xs
+all_grow put more xs h = All-weaker (IsPut put) (IsPut (put ++ more)) (λ x p. put_grow put more x p) xs h
+
+-- the numbers of two lists
+numbers_append : (n : ℕ) (xs ys : List Numbered) → times n (numbers_of (xs ++ ys)) ≡ times n (numbers_of xs) + times n (numbers_of ys)
+numbers_append n xs ys = ap (times n) (map-append (λ (y : Numbered). y.number) xs ys) ∙ times-append n (numbers_of xs) (numbers_of ys)
+
 spent_fits : (opener : ℕ) (put : List Numbered) (row : Option RowName) (pass : ℕ) → Fits opener put row pass spent_view
-spent_fits opener put row pass = record { known = (put, refl); opens = λ is. absurd (true≢false (sym is)); named = λ r is. absurd cc }
+spent_fits opener put row pass = record { known = (put, refl); took = All-nil (IsPut put); opens = λ is. absurd (true≢false (sym is)); named = λ r is. absurd cc }
 
 pub begins : IsKept [] (first_view ∷ [])
 begins = record {
@@ -38,7 +50,7 @@ begins = record {
   parts = refl;
   once = λ n. refl;
   idle = each_alone Idle first_view (λ none. refl);
-  fits = each_alone (Fits 0 [] None) first_view (record { known = ([], refl); opens = λ is. (refl, refl, refl); named = λ r is. is });
+  fits = each_alone (Fits 0 [] None) first_view (record { known = ([], refl); took = All-nil (IsPut []); opens = λ is. (refl, refl, refl); named = λ r is. is });
 }
 
 -- the others aren't the opener
@@ -65,9 +77,10 @@ names pass v r first items views h at =
       once = λ n. (let a = total_snoc (took n) vs spent_view in let b = total_set (took n) views pass v w at in let c = h.once n in omega arith);
       idle = each_snoc Idle vs spent_view (λ j none. refl) (each_set Idle views pass w (λ none. h.idle pass v at none) (λ j u other there. h.idle j u there));
       fits = each_snoc (Fits h.opener h.put (Some r)) vs spent_view (spent_fits h.opener h.put (Some r))
-          (each_set (Fits h.opener h.put (Some r)) views pass w (record { known = mine.known; opens = λ is. ((mine.opens opens).0, (mine.opens opens).1, refl); named = λ q is. is })
+          (each_set (Fits h.opener h.put (Some r)) views pass w (record { known = mine.known; took = mine.took; opens = λ is. ((mine.opens opens).0, (mine.opens opens).1, refl); named = λ q is. is })
           (λ j u other there. (let theirs = h.fits j u there in record {
             known = theirs.known;
+            took = theirs.took;
             opens = λ is. absurd (not_mine h.opener h.put h.row pass j v u mine opens theirs other is);
             named = λ q is. (let some_row : None ≡ Some q = sym unnamed ∙ theirs.named q is in absurd cc);
           })));
@@ -95,9 +108,10 @@ puts n pass v x opens number from items views room h at =
         once = λ m. (let b = total_set (took m) views pass v w at in let c = h.once m in omega arith);
         idle = each_set Idle views pass w (λ none. h.idle pass v at none) (λ j u other there. h.idle j u there);
         fits = each_set (Fits h.opener put h.row) views pass w
-            (record { known = ([], append-nil (v.known ++ x ∷ []) ∙ ap (λ l. l ++ x ∷ []) known); opens = λ is. ((mine.opens opens).0, ap (λ l. l ++ x ∷ []) known, (mine.opens opens).2); named = mine.named })
+            (record { known = ([], append-nil (v.known ++ x ∷ []) ∙ ap (λ l. l ++ x ∷ []) known); took = all_grow h.put (x ∷ []) v.taken mine.took; opens = λ is. ((mine.opens opens).0, ap (λ l. l ++ x ∷ []) known, (mine.opens opens).2); named = mine.named })
             (λ j u other there. (let theirs = h.fits j u there in record {
               known = prefix_grow u.known h.put (x ∷ []) theirs.known;
+              took = all_grow h.put (x ∷ []) u.taken theirs.took;
               opens = λ is. absurd (not_mine h.opener h.put h.row pass j v u mine opens theirs other is);
               named = theirs.named;
             }));
@@ -108,7 +122,7 @@ puts n pass v x opens number from items views room h at =
 pub takes : (pass : ℕ) (v : ItemView) → 0 < v.parts → Pops IsKept pass v (TakesOne v)
 takes pass v part x items views h at =
     let mine = h.fits pass v at in
-    let w = item_view v.opener v.parts v.row h.put (v.taken ++ x.number ∷ []) in
+    let w = item_view v.opener v.parts v.row h.put (v.taken ++ x ∷ []) in
     let gone = h.gone ++ x ∷ [] in
     let split : numbers_of h.put ≡ numbers_of h.gone ++ x.number ∷ numbers_of items = ap numbers_of (sym h.whole) ∙ map-append (λ (y : Numbered). y.number) h.gone (x ∷ items) in
     let same_length : length (numbers_of h.gone) ≡ length h.gone = length-map h.gone (λ (y : Numbered). y.number) in
@@ -118,8 +132,9 @@ takes pass v part x items views h at =
     let all : times x.number (numbers_of h.put) ≡ times x.number (numbers_of h.gone) + (1 + times x.number (numbers_of items)) =
     ap (times x.number) split ∙ (times-append x.number (numbers_of h.gone) (x.number ∷ numbers_of items) ∙ ap (λ (k : ℕ). times x.number (numbers_of h.gone) + k) (times_own x.number (numbers_of items))) in
     let most : times x.number (numbers_of h.put) ≤ 1 = subst (λ (l : List ℕ). times x.number l ≤ 1) (sym h.numbers) (times_once x.number 1 (length h.put)) in
-    let least : times x.number v.taken ≤ total (took x.number) views = total_least (took x.number) views pass v at in
-    let sum = h.once x.number in (
+    let least : times x.number (numbers_of v.taken) ≤ total (took x.number) views = total_least (took x.number) views pass v at in
+    let sum = h.once x.number in
+    let there : IsPut h.put x = (omega arith, subst (λ (k : ℕ). slice_get h.put k ≡ Some x) (sym before) place) in (
       w,
       record {
         put = h.put;
@@ -133,13 +148,13 @@ takes pass v part x items views h at =
         once = λ m. (
             let b = total_set (took m) views pass v w at in
             let c = h.once m in
-            let d = times-append m v.taken (x.number ∷ []) in
+            let d = numbers_append m v.taken (x ∷ []) in
             let e : times m (numbers_of gone) ≡ times m (numbers_of h.gone) + times m (x.number ∷ []) = ap (times m) (map-append (λ (y : Numbered). y.number) h.gone (x ∷ [])) ∙ times-append m (numbers_of h.gone) (x.number ∷ []) in
             omega arith);
         idle = each_set Idle views pass w (λ none. absurd (omega arith)) (λ j u other there. h.idle j u there);
-        fits = each_set (Fits h.opener h.put h.row) views pass w (record { known = prefix_self h.put; opens = λ is. ((mine.opens is).0, refl, (mine.opens is).2); named = mine.named }) (λ j u other there. h.fits j u there);
+        fits = each_set (Fits h.opener h.put h.row) views pass w (record { known = prefix_self h.put; took = All-push (IsPut h.put) v.taken x mine.took there; opens = λ is. ((mine.opens is).0, refl, (mine.opens is).2); named = mine.named }) (λ j u other there. h.fits j u there);
       },
-      ((λ r is. h.rows (length h.gone) x place r (mine.named r is)), omega arith, mine.known, subst (λ (k : ℕ). slice_get h.put k ≡ Some x) (sym before) place, refl, omega arith, λ is. sym (mine.opens is).1),
+      ((λ r is. h.rows (length h.gone) x place r (mine.named r is)), there.0, mine.known, there.1, refl, omega arith, λ is. sym (mine.opens is).1),
     )
 
 -- the parts are cut in two, and what was taken stays with the first
@@ -160,8 +175,8 @@ cuts pass v a b some_part whole items views h at =
       parts = (let s = total_snoc parts vs new in let t = total_set parts views pass v w at in let c = h.parts in omega arith);
       once = λ n. (let s = total_snoc (took n) vs new in let t = total_set (took n) views pass v w at in let c = h.once n in omega arith);
       idle = each_snoc Idle vs new (λ j none. refl) (each_set Idle views pass w (λ none. absurd (omega arith)) (λ j u other there. h.idle j u there));
-      fits = each_snoc (Fits h.opener h.put h.row) vs new (λ j. record { known = mine.known; opens = λ is. absurd (true≢false (sym is)); named = mine.named })
-          (each_set (Fits h.opener h.put h.row) views pass w (record { known = mine.known; opens = mine.opens; named = mine.named }) (λ j u other there. h.fits j u there));
+      fits = each_snoc (Fits h.opener h.put h.row) vs new (λ j. record { known = mine.known; took = All-nil (IsPut h.put); opens = λ is. absurd (true≢false (sym is)); named = mine.named })
+          (each_set (Fits h.opener h.put h.row) views pass w (record { known = mine.known; took = mine.took; opens = mine.opens; named = mine.named }) (λ j u other there. h.fits j u there));
     }
 
 pub splits : (pass : ℕ) (v : ItemView) → 1 < v.parts → Forks IsKept pass v (splitting_view v) (worker_view v)
@@ -186,17 +201,18 @@ merges pass v other u items views h at two at' =
           let a = total_set (took n) vs other u spent_view at' in
           let b = total_set (took n) views pass v both at in
           let c = h.once n in
-          let d = times-append n v.taken u.taken in
+          let d = numbers_append n v.taken u.taken in
           omega arith);
       idle = each_set Idle vs other spent_view (λ none. refl)
           (λ j y apart there. each_set Idle views pass both (λ none. (let a = h.idle pass v at (omega arith) in let b = h.idle other u was (omega arith) in rw (a, b) refl)) (λ k z away here. h.idle k z here) j y there);
       fits = each_set (Fits h.opener h.put h.row) vs other spent_view (spent_fits h.opener h.put h.row other)
-          (λ j y apart there. each_set (Fits h.opener h.put h.row) views pass both (record { known = mine.known; opens = mine.opens; named = mine.named }) (λ k z away here. h.fits k z here) j y there);
+          (λ j y apart there. each_set (Fits h.opener h.put h.row) views pass both
+          (record { known = mine.known; took = All-append (IsPut h.put) v.taken u.taken mine.took (h.fits other u was).took; opens = mine.opens; named = mine.named }) (λ k z away here. h.fits k z here) j y there);
     }
 
 pub learns_once : (pass : ℕ) (v : ItemView) → Learns IsKept pass v (TookOnce v)
 learns_once pass v items views h at n =
-    let least : times n v.taken ≤ total (took n) views = total_least (took n) views pass v at in
+    let least : times n (numbers_of v.taken) ≤ total (took n) views = total_least (took n) views pass v at in
     let sum = h.once n in
     let all : times n (numbers_of h.put) ≡ times n (numbers_of h.gone) + times n (numbers_of items) =
     ap (times n) (ap numbers_of (sym h.whole) ∙ map-append (λ (y : Numbered). y.number) h.gone items) ∙ times-append n (numbers_of h.gone) (numbers_of items) in
@@ -208,7 +224,8 @@ tells pass v items views h at opens =
     let mine = h.fits pass v at in (
       h.gone,
       h.whole ∙ sym (mine.opens opens).1,
-      λ all n. sym (total_alone (took n) parts views pass v at (h.parts ∙ sym all) (λ j u there none. ap (times n) (h.idle j u there none))) ∙ h.once n,
+      λ all n. sym (total_alone (took n) parts views pass v at (h.parts ∙ sym all) (λ j u there none. ap (λ (l : List Numbered). times n (numbers_of l)) (h.idle j u there none))) ∙ h.once n,
+      subst (λ (l : List Numbered). All (IsPut l) v.taken) (sym (mine.opens opens).1) mine.took,
     )
 
 -- a row is known by its name

@@ -1,5 +1,5 @@
 -- The rule of the queue: each item has the number that its put gave it, and no number is taken twice.
-use Rattle.std.specs.Prelude.{◌≡◌, ℕ, ◌+◌, ◌-◌, ◌<◌, ◌≤◌, ◌^◌, Bool, true, false, List, [], ◌∷◌, ◌++◌, length, map, slice_get, Option, Some, None}
+use Rattle.std.specs.Prelude.{◌≡◌, ℕ, ◌+◌, ◌-◌, ◌<◌, ◌≤◌, ◌^◌, Bool, true, false, List, [], ◌∷◌, ◌++◌, length, map, slice_get, All, Option, Some, None}
 use mathlib.Core.Option.{some}
 use mathlib.Core.List.{IsPrefix}
 use lib.ListN.{get_elem?}
@@ -24,7 +24,7 @@ numbers_of xs = map (λ x. x.number) xs
 abbrev pub all_parts : ℕ
 all_parts = 2 ^ 64
 
-abbrev pub item_view : Bool → ℕ → Option RowName → List Numbered → List ℕ → ItemView
+abbrev pub item_view : Bool → ℕ → Option RowName → List Numbered → List Numbered → ItemView
 item_view opener parts row known taken = record { opener = opener; parts = parts; row = row; known = known; taken = taken }
 
 abbrev pub first_view : ItemView
@@ -51,9 +51,14 @@ joined_view v w = item_view v.opener (v.parts + w.parts) v.row v.known (v.taken 
 abbrev pub IsFrom : Option RowName → Numbered → Type 0
 IsFrom row x = (r : RowName) → row ≡ Some r → name_of x.item.seen ≡ r
 
+-- it was put, as its number says
+abbrev pub IsPut : List Numbered → Numbered → Type 0
+IsPut put x = (0 < x.number) × (slice_get put (x.number - 1) ≡ Some x)
+
 -- what a pass knows is so, where these were put
 pub record Fits (opener : ℕ) (put : List Numbered) (row : Option RowName) (pass : ℕ) (v : ItemView) : Type 0 where
   pub known : IsPrefix v.known put
+  pub took : All (IsPut put) v.taken
   pub opens : v.opener ≡ true → (pass ≡ opener) × (v.known ≡ put) × (v.row ≡ row)
   pub named : (r : RowName) → v.row ≡ Some r → row ≡ Some r
 
@@ -67,7 +72,7 @@ pub record IsKept (items : List Numbered) (views : List ItemView) : Type 0 where
   pub numbers : numbers_of put ≡ count_up 1 (length put)
   pub rows : (k : ℕ) (x : Numbered) → slice_get put k ≡ Some x → IsFrom row x
   pub parts : total (λ v. v.parts) views ≡ all_parts
-  pub once : (n : ℕ) → total (λ v. times n v.taken) views ≡ times n (numbers_of gone)
+  pub once : (n : ℕ) → total (λ v. times n (numbers_of v.taken)) views ≡ times n (numbers_of gone)
   pub idle : (pass : ℕ) (v : ItemView) → get_elem? views pass ≡ some v → v.parts ≡ 0 → v.taken ≡ []
   pub fits : (pass : ℕ) (v : ItemView) → get_elem? views pass ≡ some v → Fits opener put row pass v
 
@@ -81,16 +86,18 @@ TakesOne v x w =
     IsFrom v.row x
     × (0 < x.number)
     × IsPrefix v.known w.known × (slice_get w.known (x.number - 1) ≡ Some x)
-    × (w ≡ item_view v.opener v.parts v.row w.known (v.taken ++ x.number ∷ []))
-    × (times x.number v.taken ≡ 0)
+    × (w ≡ item_view v.opener v.parts v.row w.known (v.taken ++ x ∷ []))
+    × (times x.number (numbers_of v.taken) ≡ 0)
     × (v.opener ≡ true → w.known ≡ v.known)
 
--- To the one that puts: the queue holds the last of what was put. Where it has every part, what is gone is what it took
+-- To the one that puts: the queue holds the last of what was put, and what it took was put. Where it has every part, what is gone is what
+-- it took
 abbrev pub Tells : ItemView → List Numbered → Type 0
 Tells v items =
     v.opener ≡ true
-    → (gone : List Numbered) × (gone ++ items ≡ v.known) × (v.parts ≡ all_parts → (n : ℕ) → times n v.taken ≡ times n (numbers_of gone))
+    → (gone : List Numbered) × (gone ++ items ≡ v.known) × (v.parts ≡ all_parts → (n : ℕ) → times n (numbers_of v.taken) ≡ times n (numbers_of gone))
+    × All (IsPut v.known) v.taken
 
 -- no number is among those that the pass took twice
 abbrev pub TookOnce : ItemView → List Numbered → Type 0
-TookOnce v items = (n : ℕ) → times n v.taken ≤ 1
+TookOnce v items = (n : ℕ) → times n (numbers_of v.taken) ≤ 1

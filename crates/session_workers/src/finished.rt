@@ -22,13 +22,15 @@ pub enum Done {
     Failed { error: StepError },
 }
 
-/// An item with its number, and what became of its datagram: in the one log of the cells, as its caller had seen it, or later.
+/// An item with its number, and what became of its datagram: in the one log of the cells, as its caller had seen it, or later. It is
+/// made by `work_one` alone.
 #[derive(Drop)]
 pub struct Finished {
     pub number: u64,
     pub item: Item,
     pub seen: CellSeen,
     pub done: Done,
+    pub(crate) worked: (),
     pub ghost cells: { seen.seen.book ≡ item.seen.seen.book },
     pub ghost later: { take (length (log_of item.seen)) (log_of seen) ≡ log_of item.seen },
     // It is judged exactly where it isn't a control message.

@@ -4,6 +4,7 @@ use crate::finished::Finished;
 use crate::views::FinishedView;
 use crossbeam_queue::RuledArrayQueue;
 use crossbeam_queue::protocol::{Join, Lesson, Outcome, Protocol, Split};
+use std::marker::{Brand, PhantomData};
 
 /// What is handed over is collected, or waits.
 pub struct FinishedRule;
@@ -18,6 +19,33 @@ impl Protocol<Finished, FinishedView> for FinishedRule {
 
 /// The items that are finished and wait to be collected.
 pub(crate) type FinishedQueue = RuledArrayQueue<Finished, FinishedView, FinishedRule>;
+
+/// What was made of an item. Each call that makes something picks it.
+pub trait Making {
+    ghost use Rattle.std.specs.Prelude.{List};
+    ghost use Rattle.session_workers.specs.declared.finished.Finished.{Finished};
+
+    ghost made: { List Finished };
+}
+
+impl Making for Brand {
+    ghost use Rattle.std.specs.Prelude.{[]};
+
+    ghost made = { [] };
+}
+
+/// Something was made of an item.
+pub struct Made<J: Making> {
+    of: PhantomData<J>,
+}
+
+impl<J: Making> Split<FinishedView> for Made<J> {
+    ghost use Rattle.session_workers.specs.Finishing.{making_finished, spent_finished};
+
+    ghost left = { λ v. making_finished v J.made };
+
+    ghost right = { λ v. spent_finished };
+}
 
 /// One part is cut off.
 pub struct OnePart;

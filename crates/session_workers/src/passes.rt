@@ -5,7 +5,7 @@ ghost use Rattle.crossbeam_queue.specs.Passes.{view, IsPassOf};
 ghost use Rattle.session_cells.specs.Tokens.{log_of, IsOf};
 ghost use Rattle.session_workers.specs.Items.{name_of, named_view, first_view, all_parts};
 ghost use Rattle.session_workers.specs.Opening.{AreEntered};
-ghost use Rattle.session_workers.specs.Passes.{items_of, finished_of, known_of, taken_of, gave_of, got_of, IsPassIn, IsOpener, EachOnce, IsAsBefore, IsNew};
+ghost use Rattle.session_workers.specs.Passes.{items_of, finished_of, known_of, took_of, taken_of, made_of, gave_of, got_of, IsPassIn, IsOpener, EachOnce, IsAsBefore, IsNew};
 
 use crate::finishing::{FinishedQueue, OnePart};
 use crate::item::Numbered;
@@ -67,7 +67,7 @@ pub fn open_shared<H: Hub>(
 ) -> Result<(Shared<H>, Pass), H>
     ensures of { IfOk result (λ r. IsPassIn r.0 r.1) }
     ensures opener { IfOk result (λ r. IsOpener r.1) }
-    ensures none { IfOk result (λ r. (known_of r.1 ≡ []) × (taken_of r.1 ≡ []) × (gave_of r.1 ≡ []) × (got_of r.1 ≡ [])) }
+    ensures none { IfOk result (λ r. (known_of r.1 ≡ []) × (took_of r.1 ≡ []) × (gave_of r.1 ≡ []) × (got_of r.1 ≡ []) × (made_of r.1 ≡ [])) }
     // The log that the pass has seen has the changes of each tunnel, or what overtook them.
     ensures entered { IfOk result (λ r. AreEntered kept.items (log_of r.1.seen)) }
     // It is the only pass of either queue.
@@ -127,7 +127,8 @@ pub fn join_pass<H: Hub>(shared: &Shared<H>, pass: &mut Pass, other: Pass)
     ensures of { IsPassIn shared.now pass.new }
     ensures same { (known_of pass.new ≡ known_of pass.old) × (pass.new.seen ≡ pass.old.seen) × (pass.new.puts ≡ pass.old.puts) × ((items_of pass.new).opener ≡ (items_of pass.old).opener) }
     ensures parts { ((items_of pass.new).parts ≡ (items_of pass.old).parts + (items_of other).parts) × ((finished_of pass.new).parts ≡ (finished_of pass.old).parts + (finished_of other).parts) }
-    ensures taken { taken_of pass.new ≡ taken_of pass.old ++ taken_of other }
+    ensures took { took_of pass.new ≡ took_of pass.old ++ took_of other }
+    ensures made { made_of pass.new ≡ made_of pass.old ++ made_of other }
     ensures once { EachOnce (taken_of pass.new) }
     ensures gave { gave_of pass.new ≡ gave_of pass.old ++ gave_of other }
     ensures got { got_of pass.new ≡ got_of pass.old ++ got_of other }

@@ -1,5 +1,6 @@
 //! What passes know, for proofs alone: no value of these types is made.
 
+use crate::finished::Finished;
 use crate::item::Numbered;
 use std::collections::LinkedList;
 
@@ -10,19 +11,20 @@ pub struct RowName {
     pub cells_name: u64,
 }
 
-/// What a pass knows of the items: whether it alone puts, of which row the items are, a beginning of what was put, the numbers
-/// that it took, and its parts of the right to know what all took.
+/// What a pass knows of the items: whether it alone puts, of which row the items are, a beginning of what was put, the items that it
+/// took, and its parts of the right to know what all took.
 pub struct ItemView {
     pub opener: bool,
     pub parts: u64,
     pub row: Option<RowName>,
     pub known: LinkedList<Numbered>,
-    pub taken: LinkedList<u64>,
+    pub taken: LinkedList<Numbered>,
 }
 
-/// The numbers that a pass handed over and collected of what is finished, and its parts of the right to know all of them.
+/// What a pass made of the items that it took, handed over and collected, and its parts of the right to know all of it.
 pub struct FinishedView {
     pub parts: u64,
-    pub gave: LinkedList<u64>,
-    pub got: LinkedList<u64>,
+    pub made: LinkedList<Finished>,
+    pub gave: LinkedList<Finished>,
+    pub got: LinkedList<Finished>,
 }

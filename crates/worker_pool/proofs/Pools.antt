@@ -1,18 +1,20 @@
 -- What follows of a pass of a pool.
-use Rattle.std.proofs.Common.{◌≡◌, ℕ, ◌+◌, List, [], ◌∷◌, ◌++◌, length, map, refl, ap, sym, ◌∙◌, append-nil, length-append, arith}
+use Rattle.std.proofs.Common.{◌≡◌, ℕ, ◌+◌, List, [], ◌∷◌, ◌++◌, length, refl, ap, sym, ◌∙◌, append-nil, length-append, arith}
+use Rattle.std.proofs.lemmas.List.{length-map, map-append}
 use Rattle.session_workers.specs.declared.finished.Finished.{Finished}
 use Rattle.session_workers.specs.declared.item.Numbered.{Numbered}
-use Rattle.session_workers.specs.declared.views.FinishedView.{FinishedView}
 use Rattle.step_hub.specs.declared.hub.Hub.{Ghosts}
 use Rattle.session_workers.specs.Items.{numbers_of}
-use Rattle.session_workers.specs.Lists.{times}
-use Rattle.session_workers.specs.Passes.{items_of, finished_of, known_of, taken_of, got_of, IsPassIn, IsOpener, EachOnce}
+use Rattle.session_workers.specs.Finishing.{finished_numbers}
+use Rattle.session_workers.specs.Lists.{total, times}
+use Rattle.session_workers.specs.Passes.{items_of, known_of, took_of, taken_of, made_of, got_of, origin_of, origins_of, IsPassIn, IsOpener, EachOnce}
 use Rattle.worker_pool.specs.declared.pool.Pool.{Pool}
 use Rattle.worker_pool.specs.declared.pass.PoolPass.{PoolPass}
+use Rattle.worker_pool.specs.declared.tally.Tally.{Tally}
 use Rattle.worker_pool.specs.Counting.{counts_of, IsEven}
 use Rattle.worker_pool.specs.Pools.{ends_of, IsMember, IsCaller, IsAlone, NothingWaits, AllDone}
-use Rattle.worker_pool.specs.Tallies.{capped, counted, added}
-use Rattle.worker_pool.proofs.Tallies.{tally_taken, tally_more, tally_both, capped_two, as_tally}
+use Rattle.worker_pool.specs.Tallies.{capped, tally_of, counted, added, IsTallyOf}
+use Rattle.worker_pool.proofs.Tallies.{tally_more, tally_both, capped_two}
 use Rattle.worker_pool.proofs.Times.{once_more, same_length}
 
 empty : {A : Type 0} (xs : List A) → length xs ≡ 0 → xs ≡ []
@@ -28,31 +30,46 @@ all_done p opener alone none =
     let left = none.1.0 in
     let evens = none.1.2 alone.1 in (
       λ n. told.2 alone.0 n ∙ ap (λ xs. times n (numbers_of xs)) whole,
-      λ n. (
-          let e = evens n in
-          let z : times n (map (λ f. f.number) left) ≡ 0 = ap (λ fs. times n (map (λ f. f.number) fs)) (empty left none.1.1) in
+      λ count. (
+          let e = evens count in
+          let z : total count left ≡ 0 = ap (total count) (empty left none.1.1) in
           omega arith),
+      told.3,
     )
 
-numbers_length : (xs : List Numbered) → length (numbers_of xs) ≡ length xs
-numbers_length [] = refl
-numbers_length (x ∷ xs) = let ih = numbers_length xs in omega arith
+-- ---- what a member made of what it took
 
--- and how many it took of them
+origins_numbers : (fs : List Finished) → numbers_of (origins_of fs) ≡ finished_numbers fs
+origins_numbers [] = refl
+origins_numbers (f ∷ fs) = ap (λ (ns : List ℕ). f.number ∷ ns) (origins_numbers fs)
+
+-- its tally is of items with the numbers that it took
+pub is_tally : {H : Type 0} {G : Ghosts H} (pool : Pool H G) (p : PoolPass) → IsMember pool p → IsTallyOf (taken_of p.pass) p.tally
+is_tally pool p member = (made_of p.pass, ap numbers_of member.took ∙ origins_numbers (made_of p.pass), member.tally)
+
+-- and counts all of these
+taken_counted : {H : Type 0} {G : Ghosts H} (pool : Pool H G) (p : PoolPass) → IsMember pool p → p.tally.taken ≡ capped (length (taken_of p.pass))
+taken_counted pool p member =
+    let numbers : length (taken_of p.pass) ≡ length (took_of p.pass) = length-map (took_of p.pass) (λ (x : Numbered). x.number) in
+    let made : length (origins_of (made_of p.pass)) ≡ length (made_of p.pass) = length-map (made_of p.pass) origin_of in
+    ap (λ (t : Tally). t.taken) member.tally ∙ ap capped (sym (numbers ∙ ap (λ (xs : List Numbered). length xs) member.took ∙ made))
+
+-- who knows that all is done knows how many were put
 pub all_counted : {H : Type 0} {G : Ghosts H} (pool : Pool H G) (p : PoolPass) → IsCaller pool p → AllDone p → p.tally.taken ≡ capped (length (known_of p.pass))
 all_counted pool p caller done =
-    tally_taken (taken_of p.pass) p.tally caller.member.tally
-    ∙ ap capped (same_length (taken_of p.pass) (numbers_of (known_of p.pass)) done.0 ∙ numbers_length (known_of p.pass))
+    let puts : length (numbers_of (known_of p.pass)) ≡ length (known_of p.pass) = length-map (known_of p.pass) (λ (x : Numbered). x.number) in
+    taken_counted pool p caller.member ∙ ap capped (same_length (taken_of p.pass) (numbers_of (known_of p.pass)) done.0 ∙ puts)
 
 -- a member that took one item more
 pub took_one : {H : Type 0} {G : Ghosts H} (pool : Pool H G) (old new : PoolPass) (f : Finished) → IsPassIn pool.shared new.pass → IsMember pool old
-    → taken_of new.pass ≡ taken_of old.pass ++ f.number ∷ [] → times f.number (taken_of old.pass) ≡ 0
-    → finished_of new.pass ≡ finished_of old.pass → new.collected ≡ old.collected → new.tally ≡ counted old.tally f → IsMember pool new
-took_one pool old new f of member taken none finished collected tally = record {
+    → took_of new.pass ≡ took_of old.pass ++ origin_of f ∷ [] → times f.number (taken_of old.pass) ≡ 0 → made_of new.pass ≡ made_of old.pass ++ f ∷ []
+    → got_of new.pass ≡ got_of old.pass → new.collected ≡ old.collected → new.tally ≡ counted old.tally f → IsMember pool new
+took_one pool old new f of member took none made got collected tally = record {
   of = of;
-  once = once_more (taken_of old.pass) (taken_of new.pass) f.number taken member.once none;
-  tally = as_tally (taken_of new.pass) (taken_of old.pass ++ f.number ∷ []) new.tally (counted old.tally f) taken tally (tally_more (taken_of old.pass) old.tally f member.tally);
-  collected = collected ∙ member.collected ∙ ap (λ (v : FinishedView). capped (length v.got)) (sym finished);
+  once = once_more (taken_of old.pass) (taken_of new.pass) f.number (ap numbers_of took ∙ map-append (λ (x : Numbered). x.number) (took_of old.pass) (origin_of f ∷ [])) member.once none;
+  took = took ∙ ap (λ (xs : List Numbered). xs ++ origin_of f ∷ []) member.took ∙ sym (map-append origin_of (made_of old.pass) (f ∷ [])) ∙ ap origins_of (sym made);
+  tally = tally ∙ ap (λ (t : Tally). counted t f) member.tally ∙ tally_more (made_of old.pass) f ∙ ap tally_of (sym made);
+  collected = collected ∙ member.collected ∙ ap (λ (xs : List Finished). capped (length xs)) (sym got);
 }
 
 -- the calling thread's, where what was put is as before
@@ -68,22 +85,25 @@ still_caller pool old new member caller known opener inner puts =
 
 -- a member to which another's pass came back
 pub both_members : {H : Type 0} {G : Ghosts H} (pool : Pool H G) (old other new : PoolPass) → IsPassIn pool.shared new.pass → EachOnce (taken_of new.pass) → IsMember pool old → IsMember pool other
-    → taken_of new.pass ≡ taken_of old.pass ++ taken_of other.pass → got_of new.pass ≡ got_of old.pass ++ got_of other.pass
+    → took_of new.pass ≡ took_of old.pass ++ took_of other.pass → made_of new.pass ≡ made_of old.pass ++ made_of other.pass → got_of new.pass ≡ got_of old.pass ++ got_of other.pass
     → new.collected ≡ capped (old.collected + other.collected) → new.tally ≡ added old.tally other.tally → IsMember pool new
-both_members pool old other new of once mine theirs taken got collected tally = record {
+both_members pool old other new of once mine theirs took made got collected tally = record {
   of = of;
   once = once;
-  tally = as_tally (taken_of new.pass) (taken_of old.pass ++ taken_of other.pass) new.tally (added old.tally other.tally) taken tally (tally_both (taken_of old.pass) (taken_of other.pass) old.tally other.tally mine.tally theirs.tally);
+  took = took ∙ ap (λ (xs : List Numbered). xs ++ took_of other.pass) mine.took ∙ ap (λ (xs : List Numbered). origins_of (made_of old.pass) ++ xs) theirs.took
+      ∙ sym (map-append origin_of (made_of old.pass) (made_of other.pass)) ∙ ap origins_of (sym made);
+  tally = tally ∙ ap (λ (t : Tally). added t other.tally) mine.tally ∙ ap (λ (t : Tally). added (tally_of (made_of old.pass)) t) theirs.tally
+      ∙ tally_both (made_of old.pass) (made_of other.pass) ∙ ap tally_of (sym made);
   collected = collected ∙ capped_two (length (got_of old.pass)) (length (got_of other.pass)) old.collected other.collected (length (got_of new.pass)) mine.collected theirs.collected
-      (ap (λ (xs : List ℕ). length xs) got ∙ length-append (got_of old.pass) (got_of other.pass));
+      (ap (λ (xs : List Finished). length xs) got ∙ length-append (got_of old.pass) (got_of other.pass));
 }
 
 -- by counts that don't stand still, as many items were worked or collected as were put
 pub even_ends : {H : Type 0} {G : Ghosts H} (pool : Pool H G) (p q : PoolPass) → IsCaller pool p → IsCaller pool q → IsEven (counts_of p) (counts_of q)
     → ends_of p + length (known_of q.pass) ≡ ends_of q + length (known_of p.pass)
 even_ends pool p q before after even =
-    let a = tally_taken (taken_of p.pass) p.tally before.member.tally in
-    let b = tally_taken (taken_of q.pass) q.tally after.member.tally in
+    let a = taken_counted pool p before.member in
+    let b = taken_counted pool q after.member in
     let c = before.member.collected in
     let d = after.member.collected in
     let e = before.puts in

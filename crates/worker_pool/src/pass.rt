@@ -1,7 +1,7 @@
 //! What each thread of a pool holds.
 
 ghost use Rattle.std.specs.Prelude.{◌≡◌, ◌+◌, ◌<◌, ◌++◌, []};
-ghost use Rattle.session_workers.specs.Passes.{items_of, finished_of, known_of, taken_of, gave_of, got_of};
+ghost use Rattle.session_workers.specs.Passes.{items_of, finished_of, known_of, took_of, made_of, gave_of, got_of};
 ghost use Rattle.worker_pool.specs.Pools.{IsMember, IsCaller};
 
 use crate::pool::Pool;
@@ -24,8 +24,8 @@ pub(crate) fn split_off<H: Hub>(pool: &Pool<H>, pass: &mut PoolPass) -> PoolPass
     requires of { IsCaller pool.now pass.old }
     requires parts { (1 < (items_of pass.old.pass).parts) × (1 < (finished_of pass.old.pass).parts) }
     ensures of { IsCaller pool.now pass.new × IsMember pool.now result }
-    ensures same { (known_of pass.new.pass ≡ known_of pass.old.pass) × (taken_of pass.new.pass ≡ taken_of pass.old.pass) × (got_of pass.new.pass ≡ got_of pass.old.pass) × (gave_of pass.new.pass ≡ gave_of pass.old.pass) }
-    ensures none { (taken_of result.pass ≡ []) × (gave_of result.pass ≡ []) × (got_of result.pass ≡ []) }
+    ensures same { (known_of pass.new.pass ≡ known_of pass.old.pass) × (took_of pass.new.pass ≡ took_of pass.old.pass) × (got_of pass.new.pass ≡ got_of pass.old.pass) × (gave_of pass.new.pass ≡ gave_of pass.old.pass) × (made_of pass.new.pass ≡ made_of pass.old.pass) }
+    ensures none { (took_of result.pass ≡ []) × (gave_of result.pass ≡ []) × (got_of result.pass ≡ []) × (made_of result.pass ≡ []) }
     ensures parts { ((items_of pass.new.pass).parts + 1 ≡ (items_of pass.old.pass).parts) × ((finished_of pass.new.pass).parts + 1 ≡ (finished_of pass.old.pass).parts) }
     ensures one { ((items_of result.pass).parts ≡ 1) × ((finished_of result.pass).parts ≡ 1) }
 {
@@ -43,7 +43,8 @@ pub(crate) fn join_back<H: Hub>(pool: &Pool<H>, pass: &mut PoolPass, other: Pool
     ensures of { IsCaller pool.now pass.new }
     ensures parts { ((items_of pass.new.pass).parts ≡ (items_of pass.old.pass).parts + (items_of other.pass).parts) × ((finished_of pass.new.pass).parts ≡ (finished_of pass.old.pass).parts + (finished_of other.pass).parts) }
     ensures known { known_of pass.new.pass ≡ known_of pass.old.pass }
-    ensures taken { taken_of pass.new.pass ≡ taken_of pass.old.pass ++ taken_of other.pass }
+    ensures took { took_of pass.new.pass ≡ took_of pass.old.pass ++ took_of other.pass }
+    ensures made { made_of pass.new.pass ≡ made_of pass.old.pass ++ made_of other.pass }
     ensures gave { gave_of pass.new.pass ≡ gave_of pass.old.pass ++ gave_of other.pass }
     ensures got { got_of pass.new.pass ≡ got_of pass.old.pass ++ got_of other.pass }
 {

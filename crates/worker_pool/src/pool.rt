@@ -1,7 +1,7 @@
 //! What the threads of a pool share.
 
 ghost use Rattle.std.specs.Prelude.{◌≡◌, []};
-ghost use Rattle.session_workers.specs.Passes.{known_of, taken_of, got_of, IsPassIn, IsOpener};
+ghost use Rattle.session_workers.specs.Passes.{known_of, took_of, made_of, got_of, IsPassIn, IsOpener};
 ghost use Rattle.worker_pool.specs.Pools.{IsCaller};
 
 use crate::bell::Bell;
@@ -23,7 +23,7 @@ pub struct Pool<H: Hub> {
 /// A pool over queues that were just opened, and the opener's pass. It takes no memory.
 pub fn open_pool<H: Hub>(shared: Shared<H>, pass: Pass) -> (Pool<H>, PoolPass)
     requires of { IsPassIn shared pass × IsOpener pass }
-    requires none { (known_of pass ≡ []) × (taken_of pass ≡ []) × (got_of pass ≡ []) }
+    requires none { (known_of pass ≡ []) × (took_of pass ≡ []) × (made_of pass ≡ []) × (got_of pass ≡ []) }
     ensures of { IsCaller result.0 result.1 }
     ensures same { (result.0.shared ≡ shared) × (result.1.pass ≡ pass) }
 {

@@ -2,8 +2,8 @@
 
 ghost use Rattle.std.specs.Prelude.{◌≡◌, ◌+◌, ◌<◌, length};
 ghost use Rattle.std.specs.Thread.{IsSync};
-ghost use Rattle.session_workers.specs.Passes.{items_of, finished_of, known_of, taken_of, gave_of, got_of, EachOnce};
-ghost use Rattle.worker_pool.specs.Tallies.{capped, IsTallyOf};
+ghost use Rattle.session_workers.specs.Passes.{items_of, finished_of, known_of, took_of, taken_of, made_of, gave_of, got_of, origins_of, EachOnce};
+ghost use Rattle.worker_pool.specs.Tallies.{capped, tally_of, IsTallyOf};
 ghost use Rattle.worker_pool.specs.Pools.{ends_of, IsMember, IsCaller, HasParts, IsAlone, NothingWaits, FoundOne, AllDone};
 
 use crate::counts::{counts_in, is_even};
@@ -49,6 +49,7 @@ fn attend<W: Wait, H: Hub, G: Gate, V: Serving<H>>(
     ensures of { IsCaller pool.now pass.new }
     ensures parts { HasParts pass.old pass.new }
     ensures given { V.given serving.new + V.puts serving.old ≡ V.given serving.old + V.puts serving.new }
+    ensures puts { V.puts serving.new + length (known_of pass.old.pass) ≡ V.puts serving.old + length (known_of pass.new.pass) }
     ensures serves { V.serves serving.old serving.new }
 {
     let before = counts_in(pass);
@@ -80,6 +81,7 @@ fn run_beside<R: Threads + Wait + Sync, H: Hub + Send, G: Gate + Sync, V: Servin
     ensures of { IsCaller pool.now pass.new }
     ensures parts { HasParts pass.old pass.new }
     ensures given { V.given serving.new + V.puts serving.old ≡ V.given serving.old + V.puts serving.new }
+    ensures puts { V.puts serving.new + length (known_of pass.old.pass) ≡ V.puts serving.old + length (known_of pass.new.pass) }
     ensures serves { V.serves serving.old serving.new }
 {
     if workers == 0 {
@@ -91,12 +93,12 @@ fn run_beside<R: Threads + Wait + Sync, H: Hub + Send, G: Gate + Sync, V: Servin
     join_mut(
         rt,
         &mut ||
-            requires { IsMember pool.now theirs × (gave_of theirs.pass ≡ taken_of theirs.pass) }
+            requires { IsMember pool.now theirs × (gave_of theirs.pass ≡ made_of theirs.pass) }
             ensures { IsMember pool.entry.now theirs.exit × HasParts theirs.entry theirs.exit }
         { work_on(rt, pool, &mut theirs, gate) },
         &mut ||
             requires { IsSync R.row × IsSync G.row × IsCaller pool.now pass.now × (fewer < (items_of pass.now.pass).parts) × (fewer < (finished_of pass.now.pass).parts) }
-            ensures { IsCaller pool.entry.now pass.exit.now × HasParts pass.entry.now pass.exit.now × (V.given serving.exit.now + V.puts serving.entry.now ≡ V.given serving.entry.now + V.puts serving.exit.now) × V.serves serving.entry.now serving.exit.now }
+            ensures { IsCaller pool.entry.now pass.exit.now × HasParts pass.entry.now pass.exit.now × (V.given serving.exit.now + V.puts serving.entry.now ≡ V.given serving.entry.now + V.puts serving.exit.now) × (V.puts serving.exit.now + length (known_of pass.entry.now.pass) ≡ V.puts serving.entry.now + length (known_of pass.exit.now.pass)) × V.serves serving.entry.now serving.exit.now }
         { run_beside(rt, pool, pass, fewer, gate, serving) },
     );
     join_back(pool, pass, theirs);
@@ -116,6 +118,7 @@ fn settle<W: Wait, H: Hub, G: Gate, V: Serving<H>>(
     ensures given { (V.given serving.new ≡ V.given serving.old) × (V.puts serving.new ≡ V.puts serving.old) }
     ensures serves { (s : V) → V.serves s serving.old → V.serves s serving.new }
     ensures none { NothingWaits pass.new }
+    ensures known { known_of pass.new.pass ≡ known_of pass.old.pass }
 {
     let before = counts_in(pass);
     for _ in rt.forever() {
@@ -147,8 +150,11 @@ pub fn pool_run<R: Threads + Wait + Sync, H: Hub + Send, G: Gate + Sync, V: Serv
     ensures of { IsCaller pool.now pass.new }
     ensures parts { HasParts pass.old pass.new }
     ensures given { V.given serving.new + V.puts serving.old ≡ V.given serving.old + V.puts serving.new }
+    ensures puts { V.puts serving.new + length (known_of pass.old.pass) ≡ V.puts serving.old + length (known_of pass.new.pass) }
     ensures serves { V.serves serving.old serving.new }
     ensures tally { IsTallyOf (taken_of pass.new.pass) result × EachOnce (taken_of pass.new.pass) }
+    // It counts what was made of the items that were taken, of each one.
+    ensures made { (took_of pass.new.pass ≡ origins_of (made_of pass.new.pass)) × (result ≡ tally_of (made_of pass.new.pass)) }
     ensures all { IsAlone pass.old → AllDone pass.new × (result.taken ≡ capped (length (known_of pass.new.pass))) }
 {
     pool.open();

@@ -2,7 +2,7 @@
 
 ghost use Rattle.std.specs.Prelude.{◌≡◌, ◌+◌, ◌++◌, ◌∷◌, [], length, OnOk, IfErr};
 ghost use Rattle.session_cells.specs.Tokens.{log_of, IsOf};
-ghost use Rattle.session_workers.specs.Passes.{items_of, finished_of, known_of, taken_of, gave_of, got_of, numbered, WasFull, WorkedOne, CollectedOne};
+ghost use Rattle.session_workers.specs.Passes.{items_of, finished_of, known_of, took_of, made_of, gave_of, got_of, numbered, WasFull, WorkedOne, CollectedOne};
 ghost use Rattle.worker_pool.specs.Pools.{IsMember, IsCaller, HasParts};
 
 use crate::pass::PoolPass;
@@ -24,7 +24,7 @@ pub fn put<W: Wait, H: Hub>(
     requires of { IsCaller pool.now pass.old }
     requires seen { IsOf pool.now.shared.locked.cells item.seen × (log_of item.seen ≡ log_of pass.old.pass.seen) }
     ensures of { IsCaller pool.now pass.new }
-    ensures same { (pass.new.pass.seen ≡ pass.old.pass.seen) × (taken_of pass.new.pass ≡ taken_of pass.old.pass) × (finished_of pass.new.pass ≡ finished_of pass.old.pass) × HasParts pass.old pass.new }
+    ensures same { (pass.new.pass.seen ≡ pass.old.pass.seen) × (took_of pass.new.pass ≡ took_of pass.old.pass) × (finished_of pass.new.pass ≡ finished_of pass.old.pass) × HasParts pass.old pass.new }
     ensures ok { OnOk result (known_of pass.new.pass ≡ known_of pass.old.pass ++ numbered (length (known_of pass.old.pass) + 1) item ∷ []) }
     ensures full { IfErr result (λ f. (f.capacity ≡ 1024) × (f.item ≡ item) × (items_of pass.new.pass ≡ items_of pass.old.pass) × WasFull pass.old.pass) }
 {
@@ -51,7 +51,7 @@ pub fn work_one<W: Wait, H: Hub, G: Gate>(
     requires of { IsMember pool.now pass.old }
     ensures of { IsMember pool.now pass.new }
     ensures caller { IsCaller pool.now pass.old → IsCaller pool.now pass.new × (known_of pass.new.pass ≡ known_of pass.old.pass) }
-    ensures same { (pass.new.pass.seen ≡ pass.old.pass.seen) × (finished_of pass.new.pass ≡ finished_of pass.old.pass) × HasParts pass.old pass.new }
+    ensures same { (pass.new.pass.seen ≡ pass.old.pass.seen) × (gave_of pass.new.pass ≡ gave_of pass.old.pass) × HasParts pass.old pass.new × (got_of pass.new.pass ≡ got_of pass.old.pass) }
     ensures worked { WorkedOne pool.now.shared pass.old.pass pass.new.pass result }
 {
     match session_workers::work_one(rt, &pool.shared, &mut pass.pass, gate) {
@@ -68,7 +68,7 @@ pub fn collect<W: Wait, H: Hub>(rt: &W, pool: &Pool<H>, pass: &mut PoolPass) -> 
     requires of { IsMember pool.now pass.old }
     ensures of { IsMember pool.now pass.new }
     ensures caller { IsCaller pool.now pass.old → IsCaller pool.now pass.new }
-    ensures same { (pass.new.pass.seen ≡ pass.old.pass.seen) × (items_of pass.new.pass ≡ items_of pass.old.pass) × (gave_of pass.new.pass ≡ gave_of pass.old.pass) × HasParts pass.old pass.new }
+    ensures same { (pass.new.pass.seen ≡ pass.old.pass.seen) × (items_of pass.new.pass ≡ items_of pass.old.pass) × (gave_of pass.new.pass ≡ gave_of pass.old.pass) × HasParts pass.old pass.new × (made_of pass.new.pass ≡ made_of pass.old.pass) }
     ensures collected { CollectedOne pass.old.pass pass.new.pass result }
 {
     let finished = session_workers::collect(rt, &pool.shared, &mut pass.pass)?;
@@ -85,8 +85,8 @@ pub(crate) fn hand_over<W: Wait, H: Hub>(
 )
     requires of { IsMember pool.now pass.old }
     ensures of { IsMember pool.now pass.new }
-    ensures same { (items_of pass.new.pass ≡ items_of pass.old.pass) × (got_of pass.new.pass ≡ got_of pass.old.pass) × HasParts pass.old pass.new }
-    ensures gave { gave_of pass.new.pass ≡ gave_of pass.old.pass ++ finished.number ∷ [] }
+    ensures same { (items_of pass.new.pass ≡ items_of pass.old.pass) × (got_of pass.new.pass ≡ got_of pass.old.pass) × HasParts pass.old pass.new × (made_of pass.new.pass ≡ made_of pass.old.pass) }
+    ensures gave { gave_of pass.new.pass ≡ gave_of pass.old.pass ++ finished ∷ [] }
 {
     let mut waiting = finished;
     for _ in rt.forever() {

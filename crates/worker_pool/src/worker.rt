@@ -1,7 +1,7 @@
 //! What a worker does.
 
 ghost use Rattle.std.specs.Prelude.{◌≡◌};
-ghost use Rattle.session_workers.specs.Passes.{items_of, finished_of, taken_of, gave_of, got_of};
+ghost use Rattle.session_workers.specs.Passes.{items_of, finished_of, made_of, gave_of, got_of};
 ghost use Rattle.worker_pool.specs.Pools.{IsMember, HasParts, TookOne};
 
 use crate::pass::PoolPass;
@@ -20,7 +20,7 @@ fn rest<W: Wait, H: Hub, G: Gate>(
 ) -> Option<Finished>
     requires { IsMember pool.now pass.old }
     ensures of { IsMember pool.now pass.new }
-    ensures same { (finished_of pass.new.pass ≡ finished_of pass.old.pass) × HasParts pass.old pass.new }
+    ensures same { (gave_of pass.new.pass ≡ gave_of pass.old.pass) × (got_of pass.new.pass ≡ got_of pass.old.pass) × HasParts pass.old pass.new }
     ensures took { TookOne pass.old pass.new result }
 {
     pool.bell.enter();
@@ -46,7 +46,7 @@ fn next<W: Wait, H: Hub, G: Gate>(
 ) -> Option<Finished>
     requires { IsMember pool.now pass.old }
     ensures of { IsMember pool.now pass.new }
-    ensures same { (finished_of pass.new.pass ≡ finished_of pass.old.pass) × HasParts pass.old pass.new }
+    ensures same { (gave_of pass.new.pass ≡ gave_of pass.old.pass) × (got_of pass.new.pass ≡ got_of pass.old.pass) × HasParts pass.old pass.new }
     ensures took { TookOne pass.old pass.new result }
 {
     for _ in rt.forever() {
@@ -72,10 +72,10 @@ pub(crate) fn work_on<W: Wait, H: Hub, G: Gate>(
     gate: &G,
 )
     requires of { IsMember pool.now pass.old }
-    requires even { gave_of pass.old.pass ≡ taken_of pass.old.pass }
+    requires even { gave_of pass.old.pass ≡ made_of pass.old.pass }
     ensures of { IsMember pool.now pass.new }
     ensures same { (got_of pass.new.pass ≡ got_of pass.old.pass) × HasParts pass.old pass.new }
-    ensures even { gave_of pass.new.pass ≡ taken_of pass.new.pass }
+    ensures even { gave_of pass.new.pass ≡ made_of pass.new.pass }
 {
     for _ in rt.forever() {
         match next(rt, pool, pass, gate) {

@@ -7,5 +7,5 @@ returns-clause-of g c =
     let j = c.join_pass.ensures in
     let mine = c.requires.of.0 in
     still_caller _ c.args.pass.now _
-    (both_members _ c.args.pass.now c.args.other _ j.of j.once mine.member c.requires.of.1 j.taken j.got c.saturating_add-pass.ensures c.with-pass.ensures)
+    (both_members _ c.args.pass.now c.args.other _ j.of j.once mine.member c.requires.of.1 j.took j.made j.got c.saturating_add-pass.ensures c.with-pass.ensures)
     mine j.same.0 j.same.3 j.same.2 refl

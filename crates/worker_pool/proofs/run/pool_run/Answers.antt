@@ -1,6 +1,9 @@
 use Rattle.std.proofs.Common.{◌∙◌}
-use Rattle.worker_pool.proofs.Pools.{all_done, all_counted}
+use Rattle.worker_pool.proofs.Pools.{is_tally, all_done, all_counted}
 use Rattle.worker_pool.proofs.run.pool_run.Goals as goal
+
+pub returns-clause-tally : goal.returns-clause-tally
+returns-clause-tally g c = let m = c.settle.ensures.of.member in (is_tally c.args.pool.now c.settle.new.pass m, m.once)
 
 pub returns-clause-all : goal.returns-clause-all
 returns-clause-all g c =
