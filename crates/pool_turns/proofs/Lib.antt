@@ -1,0 +1,3 @@
+pub mod Drawing
+pub mod Following
+pub mod Turning
