@@ -1,11 +1,13 @@
-//! A hub in memory, which counts records and fails where it is asked to.
+//! A hub in memory, which counts records, and fails or waits where it is asked to.
 
 ghost use Rattle.std.specs.Prelude.{◌≤◌};
 
+use crate::signals::Signals;
 use end_model::Config;
 use id_source::Ids;
 use session_looks::CellChanges;
 use std::alloc::Global;
+use std::sync::Arc;
 use step_hub::{Hub, StepError, Stop};
 use step_records::{Spaces, step_records};
 use tunnel_core::{Env, Moves, Outputs};
@@ -24,15 +26,45 @@ pub struct MemoryHub {
     records: u32,
     faults: u64,
     stop: Option<Stop>,
-    fails: bool,
+    /// After how many turns that left records it fails, None where it never does.
+    fails: Option<u32>,
+    /// What its turns that leave records wait for.
+    signals: Option<Arc<Signals>>,
     ghost tunnels: { spaces.tunnels.last ≤ 65535 },
     ghost sessions: { spaces.sessions.last ≤ 65535 },
     ghost few: { records ≤ 1048576 },
 }
 
+fn one_less(fails: Option<u32>) -> Option<u32> {
+    match fails {
+        None => None,
+        Some(behind) => Some(behind.saturating_sub(1)),
+    }
+}
+
 impl MemoryHub {
-    /// A hub of which nothing was drawn. Where `fails` is set, its store fails at the first turn that is settled.
+    /// A hub of which nothing was drawn. Where `fails` is set, its store fails at the first turn that leaves a record.
     pub fn new(alloc: Global, config: Config, fails: bool) -> MemoryHub {
+        let fails = if fails { Some(0) } else { None };
+        MemoryHub::with(alloc, config, fails, None)
+    }
+
+    /// The same, whose store fails behind so many turns that leave records.
+    pub fn failing(alloc: Global, config: Config, behind: u32) -> MemoryHub {
+        MemoryHub::with(alloc, config, Some(behind), None)
+    }
+
+    /// The same, whose store never fails. Each turn that leaves records waits for signals.
+    pub fn waiting(alloc: Global, config: Config, signals: Arc<Signals>) -> MemoryHub {
+        MemoryHub::with(alloc, config, None, Some(signals))
+    }
+
+    fn with(
+        alloc: Global,
+        config: Config,
+        fails: Option<u32>,
+        signals: Option<Arc<Signals>>,
+    ) -> MemoryHub {
         MemoryHub {
             alloc,
             config,
@@ -45,6 +77,7 @@ impl MemoryHub {
             faults: 0,
             stop: None,
             fails,
+            signals,
         }
     }
 
@@ -109,10 +142,16 @@ impl Hub for MemoryHub {
                 records: self.records,
             });
         }
-        if self.fails {
-            self.faults = self.faults.saturating_add(1);
-            self.stop = Some(Stop::Fault);
-            return Err(StepError::StoreFault);
+        if wanted != 0 {
+            if let Some(signals) = &self.signals {
+                signals.wait();
+            }
+            if self.fails == Some(0) {
+                self.faults = self.faults.saturating_add(1);
+                self.stop = Some(Stop::Fault);
+                return Err(StepError::StoreFault);
+            }
+            self.fails = one_less(self.fails);
         }
         self.records += wanted;
         self.spaces = after;

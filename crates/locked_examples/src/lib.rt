@@ -3,12 +3,24 @@
 #![tactic(auto)]
 
 mod hub;
+mod signals;
 
 pub use hub::MemoryHub;
+pub use signals::Signals;
 
+#[cfg(test)]
+mod looking_tests;
 #[cfg(test)]
 mod messages;
 #[cfg(test)]
+mod quiet_tests;
+#[cfg(test)]
+mod recovery_tests;
+#[cfg(test)]
+mod steps;
+#[cfg(test)]
 mod table_tests;
+#[cfg(test)]
+mod tick_tests;
 #[cfg(test)]
 mod turn_tests;

@@ -29,6 +29,10 @@ pub(crate) const HELLO: &str = "c802001400010000000200018008000000000006";
 pub(crate) const STOP_CCN: &str =
     "c8020026000100000002000180080000000000048008000000091234800a0000000100060000";
 
+/// An SCCRQ that asks for the recovery of tunnel 1, which its peer knows as 0x1234: the attempt has the tunnel id 65 and the draw number 5.
+pub(crate) const ATTEMPT: &str =
+    "c8020066000000000000000080080000000000018008000000020100800a0000000300000003800a000000076c6e7332800800000009004180080000000a0008000c0000004c00030000753080100000004d00000000123400000001000affff000100000005";
+
 /// A datagram of these bytes from a peer.
 fn datagram(alloc: Global, peer: u32, bytes: &[u8]) -> Result<Event, NoMemory> {
     let bytes = Bytes::from_slice(alloc, bytes)?;
