@@ -272,13 +272,7 @@ impl<'a, C: Clock> Load<'a, C> {
     }
 
     /// Puts the next message of the LAC where it is due, and the one before came back.
-    fn put_due<W: Wait, H: Hub>(
-        &mut self,
-        rt: &W,
-        pool: &Pool<H>,
-        pass: &mut PoolPass,
-        now: u64,
-    )
+    fn put_due<W: Wait, H: Hub>(&mut self, rt: &W, pool: &Pool<H>, pass: &mut PoolPass, now: u64)
         requires { IsCaller pool.now pass.old }
         ensures of { IsCaller pool.now pass.new }
         ensures same { (gave_of pass.new.pass ≡ gave_of pass.old.pass) × HasParts pass.old pass.new }
