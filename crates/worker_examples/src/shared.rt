@@ -117,7 +117,8 @@ pub fn work<W: Wait, H: Hub, G: Gate>(
     gate: &G,
 ) -> (u64, u8)
     requires { IsPassIn shared.now pass.old }
-    ensures { IsPassIn shared.now pass.new }
+    ensures of { IsPassIn shared.now pass.new }
+    ensures opener { IsOpener pass.old → IsOpener pass.new }
 {
     match work_one(rt, shared, pass, gate) {
         Worked::Empty => (0, 0),
@@ -143,7 +144,8 @@ pub fn take<W: Wait, H: Hub>(rt: &W, shared: &Shared<H>, pass: &mut Pass) -> (u6
 /// Establishes session 7 in tunnel 3.
 pub fn establish<H: Hub>(shared: &Shared<H>, pass: &mut Pass) -> bool
     requires { IsPassIn shared.now pass.old }
-    ensures { IsPassIn shared.now pass.new }
+    ensures of { IsPassIn shared.now pass.new }
+    ensures same { (items_of pass.new ≡ items_of pass.old) × (finished_of pass.new ≡ finished_of pass.old) × (pass.new.puts ≡ pass.old.puts) }
 {
     let cells = &shared.locked.cells;
     cells.bind(&mut pass.seen, 7, 3, PEER).is_ok() && cells.establish(&mut pass.seen, 7).is_ok()
