@@ -1,7 +1,7 @@
 ghost use Rattle.session_cells.specs.Tokens.{IsOf};
 
 use crate::messages::{HELLO, ICRQ, SCCCN, SCCRQ, count_sent, for_call, from_peer, lns};
-use crate::steps::{ONE, TWO, hears, opened_over, takes, ticks};
+use crate::steps::{ONE, TWO, connects, hears, opened_over, takes, ticks};
 use crate::{MemoryHub, Signals};
 use end_model::{Event, Role};
 use locked_tunnels::Locked;
@@ -86,10 +86,9 @@ fn turns_that_need_nothing_of_the_hub_do_not_wait_for_it(rt: HostRuntime) -> Res
         hears(&rt, alloc, &locked, &mut seen, THREE, SCCRQ)?,
         Some(1)
     );
-    for (peer, tunnel) in [(ONE, 1), (TWO, 2), (THREE, 3)] {
-        let event = for_call(alloc, peer, SCCCN, tunnel, 0)?;
-        assert!(rt; takes(&rt, &locked, &mut seen, &event).is_some());
-    }
+    assert!(rt; connects(&rt, alloc, &locked, &mut seen, ONE, 1)?);
+    assert!(rt; connects(&rt, alloc, &locked, &mut seen, TWO, 2)?);
+    assert!(rt; connects(&rt, alloc, &locked, &mut seen, THREE, 3)?);
     signals.ask();
     let asks = for_call(alloc, ONE, ICRQ, 1, 0)?;
     let first = for_call(alloc, TWO, HELLO, 2, 0)?;

@@ -1,5 +1,5 @@
 use crate::messages::{ATTEMPT, HELLO, SCCCN, SCCRQ, for_call, lns};
-use crate::steps::{ONE, TWO, hears, opened, takes, ticks};
+use crate::steps::{ONE, TWO, connects, hears, opened, takes, ticks};
 use end_model::{Out, Role};
 use std::test::Fail;
 use wire_base::{Cause, Why};
@@ -10,10 +10,8 @@ fn a_tunnel_is_recovered(rt: HostRuntime) -> Result<(), Fail> {
     let (locked, mut seen) = opened(alloc, Role::Lns, 0, lns())?;
     assert_eq!(rt; hears(&rt, alloc, &locked, &mut seen, ONE, SCCRQ)?, Some(1));
     assert_eq!(rt; hears(&rt, alloc, &locked, &mut seen, TWO, SCCRQ)?, Some(1));
-    for (peer, tunnel) in [(ONE, 1), (TWO, 2)] {
-        let event = for_call(alloc, peer, SCCCN, tunnel, 0)?;
-        assert!(rt; takes(&rt, &locked, &mut seen, &event).is_some());
-    }
+    assert!(rt; connects(&rt, alloc, &locked, &mut seen, ONE, 1)?);
+    assert!(rt; connects(&rt, alloc, &locked, &mut seen, TWO, 2)?);
     // another peer doesn't recover the tunnel
     let attempt = for_call(alloc, TWO, ATTEMPT, 0, 0)?;
     let given = takes(&rt, &locked, &mut seen, &attempt);

@@ -96,6 +96,22 @@ pub(crate) fn hears<W: Wait>(
     }
 }
 
+/// A tunnel that was opened comes up by the last message of its peer: whether that turn was made.
+pub(crate) fn connects<W: Wait>(
+    rt: &W,
+    alloc: Global,
+    locked: &Locked<MemoryHub>,
+    seen: &mut CellSeen,
+    peer: u32,
+    tunnel: u16,
+) -> Result<bool, NoMemory>
+    requires { IsOf locked.now.cells seen.old }
+    ensures { IsOf locked.now.cells seen.new }
+{
+    let event = for_call(alloc, peer, SCCCN, tunnel, 0)?;
+    Ok(takes(rt, locked, seen, &event).is_some())
+}
+
 /// A tick: for how many tunnels something is due, and how many datagrams they send; None where it is refused.
 pub(crate) fn ticks<W: Wait>(
     rt: &W,
