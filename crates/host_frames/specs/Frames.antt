@@ -1,5 +1,5 @@
 -- What a frame is to a LAC, once it is known which calls are live.
-use Rattle.std.specs.Prelude.{⊤, ℕ, List, Option, is_some}
+use Rattle.std.specs.Prelude.{⊤, ℕ, Option, is_some}
 use Rattle.id_table.specs.Ids.{at}
 use Rattle.wire_base.specs.declared.why.Why.TheVariants as why
 use Rattle.pppoe_discovery.specs.declared.outcome.Discovered.{Discovered}

@@ -1,6 +1,5 @@
 -- What turns give to the ports is what a node's steps give to them.
 use Rattle.std.proofs.Common.{◌≡◌, ℕ, List, [], ◌∷◌, map, refl, ap, ◌∙◌}
-use Rattle.wire_base.specs.declared.letter.Side.{Side}
 use Rattle.wire_base.specs.declared.letter.Side.TheVariants.{Sub, Net, Lcp}
 use Rattle.pppoe_session.specs.Subscribers.{holder_of, subscriber_of}
 use Rattle.end_model.specs.declared.out.Out.{Out}

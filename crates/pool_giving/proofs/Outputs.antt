@@ -1,5 +1,5 @@
 -- What turns give, output by output.
-use Rattle.std.proofs.Common.{◌≡◌, ℕ, ◌+◌, ◌<◌, List, [], ◌∷◌, ◌++◌, take, drop, get_or, length, map, sym, ap, subst, ◌∙◌}
+use Rattle.std.proofs.Common.{◌≡◌, ℕ, ◌+◌, ◌<◌, List, [], ◌∷◌, ◌++◌, take, drop, get_or, length, sym, ap, subst, ◌∙◌}
 use Rattle.std.proofs.lemmas.List.{append-nil, map-append, take_more, take-append-drop, drop_more}
 use Rattle.end_model.specs.declared.out.Out.{Out}
 use Rattle.port_events.specs.declared.end.Out.{Out as Going}

@@ -1,5 +1,5 @@
 -- Whoever was told stays told.
-use Rattle.std.proofs.Common.{◌≡◌, ℕ, Bool, true, false, cond, List, OnOk, OnErr, refl, ap, sym, subst, ◌∙◌, eqb}
+use Rattle.std.proofs.Common.{◌≡◌, ℕ, Bool, true, false, cond, List, OnOk, OnErr, refl, ap, sym, ◌∙◌, eqb}
 use Rattle.std.proofs.lemmas.Option.{none-some}
 use Rattle.std.proofs.lemmas.Bool.{eqb-true}
 use Rattle.std.specs.Prelude.{⊤, Option, Some, None, option_map, Result, Ok, Err}

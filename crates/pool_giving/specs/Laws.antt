@@ -5,7 +5,7 @@ use Rattle.end_model.specs.declared.out.Out.{Out}
 use Rattle.end_model.specs.declared.out.Out.TheVariants as given
 use Rattle.end_model.specs.Access.{Concentrator, new_access}
 use Rattle.node_run.specs.Outs.{lac_out, lns_out}
-use Rattle.pool_giving.specs.Hosts.{Hosted, turn_out, turn_outs}
+use Rattle.pool_giving.specs.Hosts.{Hosted, turn_outs}
 
 -- of an LNS, which has no hosts
 abbrev pub GivesAsLns : Type 0

@@ -1,4 +1,4 @@
-use Rattle.std.proofs.Common.{None, ◌≡◌, ap, ◌∙◌}
+use Rattle.std.proofs.Common.{None, ap, ◌∙◌}
 use Rattle.pppoe_session.specs.Subscribers.{subscriber, holder_of}
 use Rattle.pool_giving.specs.Hosts.{Hosted}
 use Rattle.pool_giving.proofs.Telling.{told_after}
