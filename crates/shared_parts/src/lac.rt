@@ -2,10 +2,11 @@
 
 ghost use Rattle.std.specs.Prelude.{◌≡◌, false, None, length, is_some, IfOk, OnOk, IfErr, OnErr};
 ghost use Rattle.checkpoint_journal.specs.State.{HasRoom};
+ghost use Rattle.end_store.specs.Stored.{IsKept};
 ghost use Rattle.step_records.specs.Leaving.{leaves};
 ghost use Rattle.step_hub.specs.Hubs.{IsLentAs, IsRefusal, Settles};
 ghost use Rattle.shared_store.specs.Settling.{SettlesOnDisk};
-ghost use Rattle.shared_store.specs.Stops.{Tells};
+ghost use Rattle.shared_store.specs.Stops.{Tells, TellsRecords};
 ghost use Rattle.shared_parts.specs.Parts.{IsTakenApart};
 
 use disk_core::Disk;
@@ -93,6 +94,7 @@ impl<D: Disk, N: Begun> LacHub<D, N> {
         requires begun { D.faults disk ≡ N.begun }
         requires going { shared.shared.stop ≡ None }
         requires room { shared.shared.store.journal.halted ≡ false → HasRoom D.reach D.calls_left shared.shared.store.journal disk }
+        requires stored { IsKept shared.shared.store (D.holds disk) }
         ensures shared { result.hub.shared ≡ shared.shared }
         ensures disk { result.hub.disk ≡ disk }
         ensures access { result.access ≡ shared.access }
@@ -104,11 +106,12 @@ impl<D: Disk, N: Begun> LacHub<D, N> {
         }
     }
 
-    /// Why it stopped, and its disk.
+    /// Why it stopped, and its disk. Where it stopped for want of room, the journal on the disk has so many records.
     pub fn end(self) -> (Option<Stop>, D)
         ensures disk { result.1 ≡ self.hub.disk }
         ensures stop { result.0 ≡ self.hub.shared.stop }
         ensures tells { Tells result.0 N.begun (D.faults result.1) }
+        ensures records { TellsRecords result.0 (D.holds result.1) }
     {
         let LacHub { hub, .. } = self;
         hub.end()
