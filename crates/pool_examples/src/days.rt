@@ -25,6 +25,8 @@ const LCP: &str = "000200010001ff03c0210101000a050611223344";
 pub enum Day {
     /// Every third is a control message for a tunnel that isn't there, and the others are data messages of a session that isn't.
     Strange,
+    /// Every third is an SCCRQ, by which a LAC opens a tunnel, and the others are data messages of a session that isn't there.
+    Opening,
     /// A LAC opens a tunnel and a call, and then LCP requests come in the call.
     Call,
 }
@@ -34,6 +36,7 @@ impl Day {
     pub fn datagram(self, k: u32) -> &'static str {
         match (self, k) {
             (Day::Strange, _) => { if k % 3 == 2 { CONTROL } else { IP } }
+            (Day::Opening, _) => { if k % 3 == 2 { SCCRQ } else { IP } }
             (Day::Call, 0) => SCCRQ,
             (Day::Call, 1) => SCCCN,
             (Day::Call, 2) => ICRQ,

@@ -172,10 +172,10 @@ fn turns_come_back_with_what_they_gave(rt: HostRuntime) -> Result<(), Fail> {
     Ok(())
 }
 
-// The third datagram is the first control message, whose turn is refused. What was put is finished.
+// The third datagram is the first SCCRQ. The store refuses what its turn leaves, so no tunnel is opened. What was put is finished.
 #[test]
 fn a_refused_turn_is_the_last_that_is_put(rt: HostRuntime) -> Result<(), Fail> {
-    let batch = Batch::in_pairs(&Open, rt.alloc(), Day::Strange, 400);
+    let batch = Batch::in_pairs(&Open, rt.alloc(), Day::Opening, 400);
     let told = run_over(&rt, rt.alloc(), true, 2, &Open, batch)?;
     assert_eq!(rt; told.counts, (4, 4, 0));
     assert_eq!(rt; told.tally, (4, 0, 3));
@@ -187,7 +187,7 @@ fn a_refused_turn_is_the_last_that_is_put(rt: HostRuntime) -> Result<(), Fail> {
 // Here the queue is full before any item is worked, so the refusal is known only when 1,026 were put.
 #[test]
 fn what_waits_when_a_turn_is_refused_is_finished(rt: HostRuntime) -> Result<(), Fail> {
-    let batch = Batch::new(&Open, rt.alloc(), Day::Strange, 3_000);
+    let batch = Batch::new(&Open, rt.alloc(), Day::Opening, 3_000);
     let told = run_over(&rt, rt.alloc(), true, 0, &Open, batch)?;
     assert_eq!(rt; told.counts, (1_026, 1_026, 3));
     assert_eq!(rt; told.tally, (1_026, 0, 684));
