@@ -16,6 +16,7 @@ help_text =
     codes "  l2tp replay            runs the schedule on standard input and writes its report to standard output\n" ++
     codes "  l2tp make SEED COUNT   draws a schedule from a seed, runs it and writes what it comes to\n" ++
     codes "  l2tp node OPTIONS      runs one end over UDP; l2tp node --help tells the options\n" ++
+    codes "  l2tp pool OPTIONS      runs one end over UDP with workers; l2tp pool --help tells the options\n" ++
     codes "  l2tp --help            writes this text\n" ++
     codes "  l2tp --version         writes the version\n" ++
     codes "\n" ++

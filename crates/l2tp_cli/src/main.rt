@@ -1,5 +1,5 @@
 //! The program `l2tp`: `replay` runs a schedule over both ends of L2TP tunnels and writes its report, `make` draws one from a seed, and `node`
-//! runs one end over UDP.
+//! and `pool` run one end over UDP, `pool` with workers in threads of their own.
 //!
 //! `main` makes the real objects and calls a top call, which carries the theorem.
 #![tactic(auto)]
@@ -14,10 +14,8 @@ mod words;
 
 use crate::exit::Exit;
 use crate::making::make_top;
-use crate::node::run_node;
-use crate::texts::VERSION;
+use crate::node::{Command, run_command};
 use crate::top::replay_top;
-use node_command::{Answered, answer_words};
 use port_traits::{StdSink, StdSource};
 use std::env;
 use std::io::ErrorKind;
@@ -36,16 +34,6 @@ fn command_words(rt: &HostRuntime) -> Result<Vec<String>, Exit> {
     }
 }
 
-/// The exit of `pool`.
-fn exit_of(answered: Answered) -> Exit {
-    match answered {
-        Answered::Told => Exit::Ok,
-        Answered::Usage => Exit::Usage,
-        Answered::WriteFault => Exit::WriteFault,
-        Answered::NoMemory => Exit::NoMemory,
-    }
-}
-
 /// Does what the words ask for, and gives the status of the process. The first word tells which call is made.
 fn run(rt: &HostRuntime, words: &[String]) -> u8 {
     let mut sink = StdSink::new(rt.stdout());
@@ -56,10 +44,9 @@ fn run(rt: &HostRuntime, words: &[String]) -> u8 {
     if first == "make" {
         make_top(rt.alloc(), words, &mut sink).status()
     } else if first == "node" {
-        run_node(rt, words)
+        run_command(rt, Command::Node, words)
     } else if first == "pool" {
-        let mut err = StdSink::new(rt.stderr());
-        exit_of(answer_words(rt.alloc(), words, VERSION, &mut sink, &mut err)).status()
+        run_command(rt, Command::Pool, words)
     } else {
         let mut source = StdSource::new(rt.stdin());
         replay_top(rt.alloc(), words, &mut source, &mut sink).status()

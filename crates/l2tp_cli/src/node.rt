@@ -1,21 +1,51 @@
-//! A node over the system's ports and a file.
+//! A node, or a pool, over the system's ports and a file.
 
 use crate::texts::VERSION;
 use block_source::{generator_of_file, seeded};
 use file_disk::FileDisk;
 use node_top::{NodeExit, node_top};
 use node_words::{Plan, read_plan};
+use pool_top::pool_top;
 use port_traits::{Sink, StdSink, write_all};
 use rand_chacha::ChaCha20Rng;
 use real_ports::{RestingClock, StdClock, UdpLink, Watch, Watched};
+use session_workers::Gate;
 use std::alloc::Global;
 use std::io;
 use std::net::Net;
 use stream_ports::{UnixEther, UnixUplink};
 use wire_base::NoMemory;
 
+/// Which command runs the end.
+#[derive(Clone, Copy)]
+pub(crate) enum Command {
+    /// The calling thread alone.
+    Node,
+    /// With workers beside it.
+    Pool,
+}
+
 /// For how many milliseconds a node may rest where nothing came.
 const REST: i32 = 10;
+
+/// And the calling thread of a pool, which gives what its workers finish to the ports when it wakes.
+const POOL_REST: i32 = 1;
+
+/// Holds no worker.
+struct NoGate;
+
+impl Gate for NoGate {
+    fn before(&self, _number: u64) {}
+
+    fn after(&self, _number: u64) {}
+}
+
+fn rest_of(command: Command) -> i32 {
+    match command {
+        Command::Node => REST,
+        Command::Pool => POOL_REST,
+    }
+}
 
 /// The status where the seed can't be read.
 const SEED_FAULT: u8 = 14;
@@ -75,7 +105,7 @@ fn tell_error<K: Sink>(alloc: Global, log: &mut K, error: io::Error) {
     }
 }
 
-/// Where the real objects of a node are.
+/// Where the real objects are.
 #[derive(Drop)]
 struct Places {
     listen: u32,
@@ -87,7 +117,13 @@ struct Places {
 
 /// Runs the words over the objects at these places. Each is opened at its first call, so that words without a plan touch none. The first
 /// fault of one of them ends the run, so at most one has an error of the system to tell.
-fn run_over(rt: &HostRuntime, words: &[String], places: Places, generator: ChaCha20Rng) -> u8 {
+fn run_over(
+    rt: &HostRuntime,
+    command: Command,
+    words: &[String],
+    places: Places,
+    generator: ChaCha20Rng,
+) -> u8 {
     let alloc = rt.alloc();
     let watch = Watch::new();
     let Ok(mut ether) = ether_at(alloc, rt, &watch, places.ether) else {
@@ -98,23 +134,44 @@ fn run_over(rt: &HostRuntime, words: &[String], places: Places, generator: ChaCh
     };
     let mut link = watch.link(UdpLink::new(rt, places.listen, places.port));
     let mut disk = FileDisk::new(rt, places.store);
-    let mut clock = RestingClock::new(StdClock::new(rt), &watch, REST);
+    let mut clock = RestingClock::new(StdClock::new(rt), &watch, rest_of(command));
     let mut generator = generator;
     let mut sink = StdSink::new(rt.stdout());
     let mut log = StdSink::new(rt.stderr());
-    let exit = node_top(
-        alloc,
-        words,
-        VERSION,
-        &mut link,
-        &mut ether,
-        &mut uplink,
-        &mut disk,
-        &mut clock,
-        &mut generator,
-        &mut sink,
-        &mut log,
-    );
+    let exit = match command {
+        Command::Node => node_top(
+            alloc,
+            words,
+            VERSION,
+            &mut link,
+            &mut ether,
+            &mut uplink,
+            &mut disk,
+            &mut clock,
+            &mut generator,
+            &mut sink,
+            &mut log,
+        ),
+        Command::Pool => {
+            let pooled = pool_top(
+                rt,
+                alloc,
+                words,
+                VERSION,
+                &mut link,
+                &mut ether,
+                &mut uplink,
+                disk,
+                &mut clock,
+                &mut generator,
+                &mut sink,
+                &mut log,
+                &NoGate,
+            );
+            disk = pooled.disk;
+            pooled.exit
+        }
+    };
     let error = disk.last_error().or(link.port().last_error());
     let error = error.or(ether_error(&ether)).or(uplink_error(&uplink));
     if let Some(error) = error {
@@ -139,7 +196,7 @@ fn tell_seed_fault(rt: &HostRuntime, error: io::Error) -> u8 {
 }
 
 /// Runs the plan of the words, with a generator that is seeded by 32 bytes of the plan's file.
-fn run_plan(rt: &HostRuntime, words: &[String], plan: Plan) -> u8 {
+fn run_plan(rt: &HostRuntime, command: Command, words: &[String], plan: Plan) -> u8 {
     let seed = match &plan.seed {
         Some(path) => path.as_str(),
         None => "/dev/urandom",
@@ -154,13 +211,13 @@ fn run_plan(rt: &HostRuntime, words: &[String], plan: Plan) -> u8 {
                 ether: plan.ether,
                 uplink: plan.uplink,
             };
-            run_over(rt, words, places, generator)
+            run_over(rt, command, words, places, generator)
         }
     }
 }
 
 /// Answers words that are no plan, over objects that aren't used.
-fn answer(rt: &HostRuntime, words: &[String]) -> u8 {
+fn answer(rt: &HostRuntime, command: Command, words: &[String]) -> u8 {
     let places = Places {
         listen: 0,
         port: 0,
@@ -168,13 +225,13 @@ fn answer(rt: &HostRuntime, words: &[String]) -> u8 {
         ether: None,
         uplink: None,
     };
-    run_over(rt, words, places, seeded([0u8; 32]))
+    run_over(rt, command, words, places, seeded([0u8; 32]))
 }
 
-/// Runs the node that the words ask for, and gives the status of the process.
-pub(crate) fn run_node(rt: &HostRuntime, words: &[String]) -> u8 {
+/// Runs the node, or the pool, that the words ask for, and gives the status of the process.
+pub(crate) fn run_command(rt: &HostRuntime, command: Command, words: &[String]) -> u8 {
     match read_plan(rt.alloc(), words) {
-        Ok(plan) => run_plan(rt, words, plan),
-        Err(_) => answer(rt, words),
+        Ok(plan) => run_plan(rt, command, words, plan),
+        Err(_) => answer(rt, command, words),
     }
 }

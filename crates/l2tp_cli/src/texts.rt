@@ -15,6 +15,7 @@ usage:
   l2tp replay            runs the schedule on standard input and writes its report to standard output
   l2tp make SEED COUNT   draws a schedule from a seed, runs it and writes what it comes to
   l2tp node OPTIONS      runs one end over UDP; l2tp node --help tells the options
+  l2tp pool OPTIONS      runs one end over UDP with workers; l2tp pool --help tells the options
   l2tp --help            writes this text
   l2tp --version         writes the version
 

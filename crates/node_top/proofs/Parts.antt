@@ -12,6 +12,7 @@ use Rattle.port_events.specs.declared.giving.TurnFault.{TurnFault}
 use Rattle.port_events.specs.Feeding.{Given, Goes}
 use Rattle.port_turn.specs.Turns.{Waits, Asked, waits, asked}
 use Rattle.port_turn.specs.Runs.{Node, node}
+use Rattle.held_ports.specs.Around.{Around}
 use Rattle.end_model.specs.declared.tunnel.Config.{Config}
 use Rattle.node_words.specs.Plans.{Planned}
 use Rattle.node_run.specs.declared.end.NodeEnd.{NodeEnd}
@@ -21,7 +22,7 @@ use Rattle.node_run.specs.Opening.{NodeOpens}
 use Rattle.node_run.specs.Serves.{Serves, EndsShort}
 use Rattle.node_run.specs.Steps.{Running, running, NodeSteps, NodeStops}
 use Rattle.node_top.specs.declared.exit.NodeExit.{NodeExit}
-use Rattle.node_top.specs.Runs.{config_of, started_counts, Outside, GivesAndServes, GivesAndEnds, ServesShort, Ran, BrokeOff}
+use Rattle.node_top.specs.Runs.{config_of, started_counts, GivesAndServes, GivesAndEnds, ServesShort, Ran, BrokeOff}
 
 pub same_waits : (l k : Option (List Datagram)) (e f : Option (List (List ℕ))) (u v : Option (List LowerFrame)) → l ≡ k → e ≡ f → u ≡ v → waits l e u ≡ waits k f v
 same_waits l k e f u v link ether up = rw (link, ether, up) refl
@@ -50,12 +51,12 @@ ended_behind {S} steps stops fault opens outs old end' given' waits' asked' mid 
 }
 
 -- the node that serves, by what was drawn, read and counted before
-same_start : {D : Type 0} (stream stream' : Stream) (clock clock' : Option Moments) (before before' : Counts) (opened : NodeEnd) (mid : D) (mid_log : Sunk) (old : Outside)
+same_start : {D : Type 0} (stream stream' : Stream) (clock clock' : Option Moments) (before before' : Counts) (opened : NodeEnd) (mid : D) (mid_log : Sunk) (old : Around)
     → stream ≡ stream' → clock ≡ clock' → before ≡ before'
     → node stream clock (running opened mid before mid_log) old.given old.waits old.asked ≡ node stream' clock' (running opened mid before' mid_log) old.given old.waits old.asked
 same_start stream stream' clock clock' before before' opened mid mid_log old drawn passes counting = rw (drawn, passes, counting) refl
 
-pub ran_so : {D : Type 0} (holds : D → Option Held) (reach calls_left faults : D → ℕ) (p : Planned) (counts : Counts) (disk mid now : D) (log mid_log log' : Sunk) (old new : Outside) (opened end : NodeEnd)
+pub ran_so : {D : Type 0} (holds : D → Option Held) (reach calls_left faults : D → ℕ) (p : Planned) (counts : Counts) (disk mid now : D) (log mid_log log' : Sunk) (old new : Around) (opened end : NodeEnd)
     (outs : List Out) (config : Config) (begun : ℕ) (key : List ℕ) (stream : Stream) (clock : Option Moments) (before : Counts) → before ≡ started_counts outs → config ≡ config_of p → (key, stream) ≡ fill_bytes 16 old.stream → IfSome old.clock (λ (ms : Moments). begun ≡ moment ms)
     → clock ≡ option_map passed old.clock → NodeOpens holds reach calls_left faults p.identity.lac config begun key disk mid log mid_log opened outs
     → GivesAndServes (NodeSteps holds reach calls_left faults) p.texts.opens p.numbers.turns outs
@@ -78,7 +79,7 @@ ran_so {D} holds reach calls_left faults p counts disk mid now log mid_log log' 
           (node new.stream new.clock (running end now counts log') new.given new.waits new.asked)) (same_start stream _ clock _ before _ opened mid mid_log old later passes counting) serves;
     }
 
-pub broke_so : {D : Type 0} (holds : D → Option Held) (reach calls_left faults : D → ℕ) (p : Planned) (exit : NodeExit) (counts : Counts) (disk mid now : D) (log mid_log log' : Sunk) (old new : Outside)
+pub broke_so : {D : Type 0} (holds : D → Option Held) (reach calls_left faults : D → ℕ) (p : Planned) (exit : NodeExit) (counts : Counts) (disk mid now : D) (log mid_log log' : Sunk) (old new : Around)
     (opened end : NodeEnd) (outs : List Out) (config : Config) (begun : ℕ) (key : List ℕ) (stream : Stream) (clock : Option Moments) (before : Counts) → before ≡ started_counts outs → config ≡ config_of p → (key, stream) ≡ fill_bytes 16 old.stream → IfSome old.clock (λ (ms : Moments). begun ≡ moment ms)
     → clock ≡ option_map passed old.clock → NodeOpens holds reach calls_left faults p.identity.lac config begun key disk mid log mid_log opened outs
     → ServesShort (NodeSteps holds reach calls_left faults) (NodeStops holds reach calls_left faults) exit p.texts.opens outs

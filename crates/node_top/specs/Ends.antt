@@ -28,8 +28,8 @@ Finishes (Ok counts) result old new = Tells result exits.Ok (counts_text counts)
 Finishes (Err exit) result old new = Tells result exit (exit_text exit) old new ⊎ Lacks result old new
 
 -- of a run that ended early the log is told why, and of another one nothing more
-abbrev pub EndsLog : Result Counts NodeExit → Sunk → Sunk → Type 0
-EndsLog (Ok counts) old new = new ≡ old
+abbrev pub EndsLog : {T : Type 0} → Result T NodeExit → Sunk → Sunk → Type 0
+EndsLog (Ok done) old new = new ≡ old
 EndsLog (Err exit) old new = Noted (exit_text exit) old new
 
 -- a plan was run, which left the log so, and this was written of it

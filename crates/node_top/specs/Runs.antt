@@ -12,6 +12,7 @@ use Rattle.port_events.specs.Giving.{IsCut}
 use Rattle.port_events.specs.Feeding.{Given, Goes}
 use Rattle.port_turn.specs.Turns.{Waits, Asked}
 use Rattle.port_turn.specs.Runs.{Node, node}
+use Rattle.held_ports.specs.Around.{Around}
 use Rattle.end_model.specs.declared.tunnel.Config.{Config}
 use Rattle.end_model.specs.End.{new_config}
 use Rattle.node_run.specs.Stops as opening
@@ -111,20 +112,9 @@ ServesShort steps stops exit opens outs old end' given' waits' asked' =
     × (((exit ≡ of_turn fault) × StartCut fault outs old end' given' waits' asked')
     ⊎ ((exit ≡ of_serving (fault_of fault)) × GivesAndEnds steps stops fault opens outs old end' given' waits' asked'))
 
--- all that is around a node's end but its disk
-pub record Outside : Type 0 where
-  pub stream : Stream
-  pub clock : Option Moments
-  pub given : Given
-  pub waits : Waits
-  pub asked : Asked
-
-abbrev pub outside : Stream → Option Moments → Given → Waits → Asked → Outside
-outside stream clock given waits asked = record { stream = stream; clock = clock; given = given; waits = waits; asked = asked }
-
 -- The run of a plan to its end: the clock is read and the end is opened over what the disk held, at that moment and with the generator's
 -- first block; then it serves. The log is told of the start and of each step.
-pub record Ran {D : Type 0} (holds : D → Option Held) (reach calls_left faults : D → ℕ) (p : Planned) (counts : Counts) (disk now : D) (log log' : Sunk) (old new : Outside) : Type 0 where
+pub record Ran {D : Type 0} (holds : D → Option Held) (reach calls_left faults : D → ℕ) (p : Planned) (counts : Counts) (disk now : D) (log log' : Sunk) (old new : Around) : Type 0 where
   -- the moment that was read
   pub begun : ℕ
   pub read : IfSome old.clock (λ (ms : Moments). begun ≡ moment ms)
@@ -140,7 +130,7 @@ pub record Ran {D : Type 0} (holds : D → Option Held) (reach calls_left faults
 
 -- The run of a plan that ended before there was anything to go out: the end wasn't opened, or memory was wanting for what its start gives. No
 -- port was touched.
-pub record StayedShut {D : Type 0} (holds : D → Option Held) (reach calls_left faults : D → ℕ) (p : Planned) (exit : NodeExit) (disk now : D) (log log' : Sunk) (old new : Outside) : Type 0 where
+pub record StayedShut {D : Type 0} (holds : D → Option Held) (reach calls_left faults : D → ℕ) (p : Planned) (exit : NodeExit) (disk now : D) (log log' : Sunk) (old new : Around) : Type 0 where
   pub begun : ℕ
   pub read : IfSome old.clock (λ (ms : Moments). begun ≡ moment ms)
   pub why : NodeUnopened
@@ -151,7 +141,7 @@ pub record StayedShut {D : Type 0} (holds : D → Option Held) (reach calls_left
   pub asks : new.asked ≡ old.asked
 
 -- The run of a plan whose end was opened, and that ended early. The log was told of the start and of each step that was made.
-pub record BrokeOff {D : Type 0} (holds : D → Option Held) (reach calls_left faults : D → ℕ) (p : Planned) (exit : NodeExit) (disk now : D) (log log' : Sunk) (old new : Outside) : Type 0 where
+pub record BrokeOff {D : Type 0} (holds : D → Option Held) (reach calls_left faults : D → ℕ) (p : Planned) (exit : NodeExit) (disk now : D) (log log' : Sunk) (old new : Around) : Type 0 where
   -- the moment that was read
   pub begun : ℕ
   pub read : IfSome old.clock (λ (ms : Moments). begun ≡ moment ms)
@@ -167,7 +157,7 @@ pub record BrokeOff {D : Type 0} (holds : D → Option Held) (reach calls_left f
       (running end now counts log') new.given new.waits new.asked
 
 -- the run of a plan, to its end or as far as it came
-abbrev pub RanTo : {D : Type 0} → (D → Option Held) → (D → ℕ) → (D → ℕ) → (D → ℕ) → Planned → Result Counts NodeExit → D → D → Sunk → Sunk → Outside → Outside → Type 0
+abbrev pub RanTo : {D : Type 0} → (D → Option Held) → (D → ℕ) → (D → ℕ) → (D → ℕ) → Planned → Result Counts NodeExit → D → D → Sunk → Sunk → Around → Around → Type 0
 RanTo holds reach calls_left faults p (Ok counts) disk now log log' old new = Ran holds reach calls_left faults p counts disk now log log' old new
 RanTo holds reach calls_left faults p (Err exit) disk now log log' old new =
     StayedShut holds reach calls_left faults p exit disk now log log' old new ⊎ BrokeOff holds reach calls_left faults p exit disk now log log' old new

@@ -7,4 +7,6 @@ mod telling;
 mod top;
 
 pub use exit::NodeExit;
-pub use top::node_top;
+pub use running::{config_of, of_giving, of_opening, of_serving};
+pub use telling::{exit_text, push_line};
+pub use top::{node_top, tell};

@@ -4,11 +4,12 @@ ghost use Rattle.std.specs.Prelude.{◌≡◌, false, OnOk, IfErr};
 ghost use Rattle.port_events.specs.Feeding.{given};
 ghost use Rattle.port_turn.specs.Turns.{waits, asked};
 ghost use Rattle.port_turn.specs.Runs.{node};
+ghost use Rattle.held_ports.specs.Around.{around};
 ghost use Rattle.node_words.specs.Plans.{planned};
 ghost use Rattle.node_run.specs.Faults.{faults};
 ghost use Rattle.node_run.specs.Logs.{sunk, Grows};
 ghost use Rattle.node_run.specs.Steps.{running, store_of, IsReady, NodeSteps, NodeStops};
-ghost use Rattle.node_top.specs.Runs.{config_of, of_opening, of_turn, of_serving, started_counts, outside, RunBlames, RanTo, GivesAndServes, ServesShort};
+ghost use Rattle.node_top.specs.Runs.{config_of, of_opening, of_turn, of_serving, started_counts, RunBlames, RanTo, GivesAndServes, ServesShort};
 
 use crate::exit::NodeExit;
 use block_source::next_block;
@@ -24,7 +25,7 @@ use rand_core::Rng;
 use std::alloc::Global;
 
 /// The configuration that a plan asks for.
-fn config_of(plan: Plan) -> Config
+pub fn config_of(plan: Plan) -> Config
     ensures { result ≡ config_of (planned plan) }
 {
     Config::new(
@@ -37,7 +38,7 @@ fn config_of(plan: Plan) -> Config
 }
 
 /// How a node ends whose end wasn't opened.
-fn of_opening(why: NodeUnopened) -> NodeExit
+pub fn of_opening(why: NodeUnopened) -> NodeExit
     ensures { result ≡ of_opening why }
 {
     match why {
@@ -58,7 +59,7 @@ fn of_opening(why: NodeUnopened) -> NodeExit
 }
 
 /// How a node ends of whose start not all goes out.
-fn of_giving(fault: TurnFault<NodeStop>) -> NodeExit
+pub fn of_giving(fault: TurnFault<NodeStop>) -> NodeExit
     ensures { result ≡ of_turn fault }
 {
     match fault {
@@ -70,7 +71,7 @@ fn of_giving(fault: TurnFault<NodeStop>) -> NodeExit
 }
 
 /// How a node ends of which a turn ended early.
-fn of_serving(fault: NodeFault) -> NodeExit
+pub fn of_serving(fault: NodeFault) -> NodeExit
     ensures { result ≡ of_serving fault }
 {
     match fault {
@@ -143,7 +144,7 @@ pub(crate) fn run<L: Link, E: Ether, U: Uplink, D: Disk, C: Clock, R: Rng, O: Si
     rng: &mut R,
     log: &mut O,
 ) -> Result<Counts, NodeExit>
-    ensures ran { RanTo D.holds D.reach D.calls_left D.faults (planned plan) result disk.old disk.new (sunk (O.faults log.old) (O.taken log.old)) (sunk (O.faults log.new) (O.taken log.new)) (outside (R.stream rng.old) (C.gives clock.old) (given (L.given link.old) (E.given ether.old) (U.given up.old)) (waits (L.waiting link.old) (E.waiting ether.old) (U.waiting up.old)) (asked (L.asked link.old) (E.asked ether.old) (U.asked up.old))) (outside (R.stream rng.new) (C.gives clock.new) (given (L.given link.new) (E.given ether.new) (U.given up.new)) (waits (L.waiting link.new) (E.waiting ether.new) (U.waiting up.new)) (asked (L.asked link.new) (E.asked ether.new) (U.asked up.new))) }
+    ensures ran { RanTo D.holds D.reach D.calls_left D.faults (planned plan) result disk.old disk.new (sunk (O.faults log.old) (O.taken log.old)) (sunk (O.faults log.new) (O.taken log.new)) (around (R.stream rng.old) (C.gives clock.old) (given (L.given link.old) (E.given ether.old) (U.given up.old)) (waits (L.waiting link.old) (E.waiting ether.old) (U.waiting up.old)) (asked (L.asked link.old) (E.asked ether.old) (U.asked up.old))) (around (R.stream rng.new) (C.gives clock.new) (given (L.given link.new) (E.given ether.new) (U.given up.new)) (waits (L.waiting link.new) (E.waiting ether.new) (U.waiting up.new)) (asked (L.asked link.new) (E.asked ether.new) (U.asked up.new))) }
     ensures grows { Grows (sunk (O.faults log.old) (O.taken log.old)) (sunk (O.faults log.new) (O.taken log.new)) }
     ensures cause { RunBlames (faults (D.faults disk.old) (L.faults link.old) (E.faults ether.old) (U.faults up.old)) (faults (D.faults disk.new) (L.faults link.new) (E.faults ether.new) (U.faults up.new)) result }
 {

@@ -9,8 +9,8 @@ use node_run::Counts;
 use std::alloc::Global;
 use wire_base::{Bytes, NoMemory};
 
-/// Appends a word and its number, in a line.
-fn push_line(out: &mut Bytes, word: &[u8], number: u64) -> Result<(), NoMemory>
+/// Appends a word and its number, in decimal, in a line.
+pub fn push_line(out: &mut Bytes, word: &[u8], number: u64) -> Result<(), NoMemory>
     ensures { OnOk result (out.new ≡ out.old ++ number_line word.now number) }
 {
     let mut digits = Buffer::new();
@@ -39,8 +39,8 @@ fn line_of(alloc: Global, word: &[u8], number: u64) -> Result<Bytes, NoMemory>
     Ok(text)
 }
 
-/// The line of a node that ended early, nothing where memory was wanting.
-pub(crate) fn exit_text(alloc: Global, exit: NodeExit) -> Result<Bytes, NoMemory>
+/// The line of a node that ended early, nothing where memory was wanting for its run, and for exits that no run has.
+pub fn exit_text(alloc: Global, exit: NodeExit) -> Result<Bytes, NoMemory>
     ensures ok { IfOk result (λ text. text ≡ exit_text exit) }
     ensures err { OnErr result (exit_text exit ≢ []) }
 {

@@ -3,11 +3,12 @@
 ghost use Rattle.std.specs.Prelude.{None, map, string_bytes};
 ghost use Rattle.port_events.specs.Feeding.{given};
 ghost use Rattle.port_turn.specs.Turns.{waits, asked};
+ghost use Rattle.held_ports.specs.Around.{around};
 ghost use Rattle.node_run.specs.Faults.{faults};
 ghost use Rattle.node_run.specs.Logs.{sunk};
 ghost use Rattle.node_words.specs.Helps.{asked_text, node_help_text};
 ghost use Rattle.node_words.specs.Plans.{plan_of};
-ghost use Rattle.node_top.specs.Runs.{outside, RanTo};
+ghost use Rattle.node_top.specs.Runs.{RanTo};
 ghost use Rattle.node_top.specs.Ends.{Tells, Finishes, EndsLog, NodeEnds};
 
 use crate::exit::NodeExit;
@@ -24,7 +25,7 @@ use std::alloc::Global;
 const USAGE: &[u8] = b"usage: l2tp node\n";
 
 /// Writes a text, and gives the exit that goes with it, or a write fault.
-fn tell<K: Sink>(sink: &mut K, text: &[u8], exit: NodeExit) -> NodeExit
+pub fn tell<K: Sink>(sink: &mut K, text: &[u8], exit: NodeExit) -> NodeExit
     ensures { Tells result exit text.now (sunk (K.faults sink.old) (K.taken sink.old)) (sunk (K.faults sink.new) (K.taken sink.new)) }
 {
     match write_all(sink, text) {
@@ -74,7 +75,7 @@ fn run_words<L: Link, E: Ether, U: Uplink, D: Disk, C: Clock, R: Rng, K: Sink, O
     sink: &mut K,
     log: &mut O,
 ) -> NodeExit
-    ensures { NodeEnds (λ p ran left. RanTo D.holds D.reach D.calls_left D.faults p ran disk.old disk.new (sunk (O.faults log.old) (O.taken log.old)) left (outside (R.stream rng.old) (C.gives clock.old) (given (L.given link.old) (E.given ether.old) (U.given up.old)) (waits (L.waiting link.old) (E.waiting ether.old) (U.waiting up.old)) (asked (L.asked link.old) (E.asked ether.old) (U.asked up.old))) (outside (R.stream rng.new) (C.gives clock.new) (given (L.given link.new) (E.given ether.new) (U.given up.new)) (waits (L.waiting link.new) (E.waiting ether.new) (U.waiting up.new)) (asked (L.asked link.new) (E.asked ether.new) (U.asked up.new)))) None (plan_of (map string_bytes words.now)) result (sunk (K.faults sink.old) (K.taken sink.old)) (sunk (K.faults sink.new) (K.taken sink.new)) (sunk (O.faults log.old) (O.taken log.old)) (sunk (O.faults log.new) (O.taken log.new)) (faults (D.faults disk.old) (L.faults link.old) (E.faults ether.old) (U.faults up.old)) (faults (D.faults disk.new) (L.faults link.new) (E.faults ether.new) (U.faults up.new)) }
+    ensures { NodeEnds (λ p ran left. RanTo D.holds D.reach D.calls_left D.faults p ran disk.old disk.new (sunk (O.faults log.old) (O.taken log.old)) left (around (R.stream rng.old) (C.gives clock.old) (given (L.given link.old) (E.given ether.old) (U.given up.old)) (waits (L.waiting link.old) (E.waiting ether.old) (U.waiting up.old)) (asked (L.asked link.old) (E.asked ether.old) (U.asked up.old))) (around (R.stream rng.new) (C.gives clock.new) (given (L.given link.new) (E.given ether.new) (U.given up.new)) (waits (L.waiting link.new) (E.waiting ether.new) (U.waiting up.new)) (asked (L.asked link.new) (E.asked ether.new) (U.asked up.new)))) None (plan_of (map string_bytes words.now)) result (sunk (K.faults sink.old) (K.taken sink.old)) (sunk (K.faults sink.new) (K.taken sink.new)) (sunk (O.faults log.old) (O.taken log.old)) (sunk (O.faults log.new) (O.taken log.new)) (faults (D.faults disk.old) (L.faults link.old) (E.faults ether.old) (U.faults up.old)) (faults (D.faults disk.new) (L.faults link.new) (E.faults ether.new) (U.faults up.new)) }
 {
     match read_plan(alloc, words) {
         Ok(plan) => {
@@ -112,7 +113,7 @@ pub fn node_top<L: Link, E: Ether, U: Uplink, D: Disk, C: Clock, R: Rng, K: Sink
     sink: &mut K,
     log: &mut O,
 ) -> NodeExit
-    ensures { NodeEnds (λ p ran left. RanTo D.holds D.reach D.calls_left D.faults p ran disk.old disk.new (sunk (O.faults log.old) (O.taken log.old)) left (outside (R.stream rng.old) (C.gives clock.old) (given (L.given link.old) (E.given ether.old) (U.given up.old)) (waits (L.waiting link.old) (E.waiting ether.old) (U.waiting up.old)) (asked (L.asked link.old) (E.asked ether.old) (U.asked up.old))) (outside (R.stream rng.new) (C.gives clock.new) (given (L.given link.new) (E.given ether.new) (U.given up.new)) (waits (L.waiting link.new) (E.waiting ether.new) (U.waiting up.new)) (asked (L.asked link.new) (E.asked ether.new) (U.asked up.new)))) (asked_text node_help_text version.now words.now) (plan_of (map string_bytes words.now)) result (sunk (K.faults sink.old) (K.taken sink.old)) (sunk (K.faults sink.new) (K.taken sink.new)) (sunk (O.faults log.old) (O.taken log.old)) (sunk (O.faults log.new) (O.taken log.new)) (faults (D.faults disk.old) (L.faults link.old) (E.faults ether.old) (U.faults up.old)) (faults (D.faults disk.new) (L.faults link.new) (E.faults ether.new) (U.faults up.new)) }
+    ensures { NodeEnds (λ p ran left. RanTo D.holds D.reach D.calls_left D.faults p ran disk.old disk.new (sunk (O.faults log.old) (O.taken log.old)) left (around (R.stream rng.old) (C.gives clock.old) (given (L.given link.old) (E.given ether.old) (U.given up.old)) (waits (L.waiting link.old) (E.waiting ether.old) (U.waiting up.old)) (asked (L.asked link.old) (E.asked ether.old) (U.asked up.old))) (around (R.stream rng.new) (C.gives clock.new) (given (L.given link.new) (E.given ether.new) (U.given up.new)) (waits (L.waiting link.new) (E.waiting ether.new) (U.waiting up.new)) (asked (L.asked link.new) (E.asked ether.new) (U.asked up.new)))) (asked_text node_help_text version.now words.now) (plan_of (map string_bytes words.now)) result (sunk (K.faults sink.old) (K.taken sink.old)) (sunk (K.faults sink.new) (K.taken sink.new)) (sunk (O.faults log.old) (O.taken log.old)) (sunk (O.faults log.new) (O.taken log.new)) (faults (D.faults disk.old) (L.faults link.old) (E.faults ether.old) (U.faults up.old)) (faults (D.faults disk.new) (L.faults link.new) (E.faults ether.new) (U.faults up.new)) }
 {
     if asks_for_help(words) {
         return tell(sink, node_help(), NodeExit::Ok);

@@ -1,0 +1,327 @@
+//! The call that runs a pool.
+
+ghost use Rattle.std.specs.Prelude.{◌≡◌, ℕ, Bool, [], false, Some, None};
+ghost use Rattle.checkpoint_journal.specs.State.{HasRoom};
+ghost use Rattle.end_store.specs.Stored.{IsKept};
+ghost use Rattle.port_events.specs.Feeding.{given};
+ghost use Rattle.port_turn.specs.Turns.{waits, asked};
+ghost use Rattle.held_ports.specs.Around.{Around, PortCounts, around};
+ghost use Rattle.session_workers.specs.Items.{all_parts};
+ghost use Rattle.session_workers.specs.Passes.{items_of, finished_of, known_of, taken_of, got_of, IsPassIn, IsOpener};
+ghost use Rattle.worker_pool.specs.Tallies.{tally_of};
+ghost use Rattle.pool_serving.specs.Faults.{AreBlamed};
+ghost use Rattle.node_run.specs.declared.faults.NodeFault.TheVariants as node;
+ghost use Rattle.node_run.specs.Faults.{faults};
+ghost use Rattle.node_run.specs.Steps.{store_of, IsReady};
+ghost use Rattle.node_pool.specs.Exits.{PoolBlames, with_disk};
+ghost use Rattle.node_pool.specs.Pools.{RanPool};
+
+use crate::ending::pool_fault;
+use crate::kept::kept_tunnels;
+use disk_core::Disk;
+use end_model::Role;
+use held_ports::{HeldPorts, Ports};
+use lac_core::LacAccess;
+use locked_tunnels::KeptTunnel;
+use node_run::{NodeEnd, NodeFault};
+use pool_giving::Hosts;
+use pool_serving::{Desk, PoolFault, PoolServing};
+use port_events::TurnFault;
+use port_traits::{Clock, Ether, Link, Uplink};
+use pppoe_session::Table;
+use rand_core::Rng;
+use session_workers::{Gate, Pass, Shared, open_shared};
+use shared_parts::{Begun, DiskHub, LacShared, LnsHub, lac_parts, lns_parts};
+use std::alloc::Global;
+use std::marker::Brand;
+use std::sync::Wait;
+use std::thread::Threads;
+use step_hub::Hub;
+use stored_ends::{StoredLac, StoredLns};
+use worker_pool::{Tally, open_pool, pool_run};
+
+/// What a pool leaves: why it ended early, what became of the datagrams, and its disk.
+#[derive(Drop)]
+pub struct PoolEnd<D> {
+    pub fault: Option<NodeFault>,
+    pub tally: Tally,
+    pub disk: D,
+}
+
+/// What a run over a hub leaves.
+#[derive(Drop)]
+struct HubRan<H: Hub> {
+    tally: Tally,
+    hub: H,
+}
+
+/// Runs a pool over queues that were just opened, and gives the hub back.
+fn run_opened<'a, W: Threads + Wait + Sync, P: Ports, H: Hub + Send, G: Gate + Sync>(
+    rt: &W,
+    shared: Shared<H>,
+    pass: Pass,
+    workers: u32,
+    gate: &G,
+    serving: &mut PoolServing<'a, P, G>,
+) -> HubRan<H>
+    requires of { IsPassIn shared pass × IsOpener pass }
+    requires none { (known_of pass ≡ []) × (taken_of pass ≡ []) × (got_of pass ≡ []) }
+    requires all { ((items_of pass).parts ≡ all_parts) × ((finished_of pass).parts ≡ all_parts) }
+    requires first { (serving.old.fault ≡ None) × (serving.old.desk.puts ≡ 0) }
+    ensures ran { RanPool serving.new.fault serving.old.opens serving.old.turns result.tally (P.around serving.old.ports) (P.around serving.new.ports) }
+    ensures blamed { AreBlamed (P.counts serving.old.ports) (P.counts serving.new.ports) serving.new.fault }
+    ensures loans { P.loans serving.new.ports ≡ P.loans serving.old.ports }
+{
+    let opened = open_pool(shared, pass);
+    let (pool, mut pass) = opened;
+    let tally = pool_run(rt, &pool, &mut pass, workers, gate, serving);
+    HubRan {
+        tally,
+        hub: pool.into_shared().into_hub(),
+    }
+}
+
+/// Runs a pool over a hub, and gives the hub back, of which nothing is known but what its type keeps.
+fn run_hub<'a, W: Threads + Wait + Sync, P: Ports, H: Hub + Send, G: Gate + Sync>(
+    rt: &W,
+    alloc: Global,
+    role: Role,
+    lns: u32,
+    kept: Vec<KeptTunnel>,
+    hub: H,
+    workers: u32,
+    gate: &G,
+    serving: &mut PoolServing<'a, P, G>,
+) -> HubRan<H>
+    requires first { (serving.old.fault ≡ None) × (serving.old.desk.puts ≡ 0) }
+    ensures ran { RanPool serving.new.fault serving.old.opens serving.old.turns result.tally (P.around serving.old.ports) (P.around serving.new.ports) }
+    ensures blamed { AreBlamed (P.counts serving.old.ports) (P.counts serving.new.ports) serving.new.fault }
+    ensures loans { P.loans serving.new.ports ≡ P.loans serving.old.ports }
+{
+    match open_shared(alloc, role, lns, kept, hub) {
+        Ok((shared, pass)) => run_opened(rt, shared, pass, workers, gate, serving),
+        Err(hub) => {
+            serving.fault = Some(TurnFault::NoMemory);
+            let tally = no_tally();
+            HubRan { tally, hub }
+        }
+    }
+}
+
+/// Nothing was taken.
+fn no_tally() -> Tally
+    ensures { result ≡ tally_of [] }
+{
+    Tally {
+        taken: 0,
+        up: 0,
+        dropped: 0,
+    }
+}
+
+/// What an LNS knows of hosts: it has none.
+fn no_hosts(alloc: Global) -> LacAccess {
+    LacAccess {
+        key: [0; 16],
+        hosts: Table::new(alloc),
+        kept: Table::new(alloc),
+    }
+}
+
+/// A run that ended before anything was taken, for want of memory.
+fn no_memory<D>(disk: D) -> PoolEnd<D>
+    ensures ran { (opens : Bool) (turns : ℕ) (a : Around) → RanPool result.fault opens turns result.tally a a }
+    ensures same { result ≡ record { fault = Some node.NoMemory; tally = tally_of []; disk = disk } }
+{
+    let tally = no_tally();
+    PoolEnd {
+        fault: Some(NodeFault::NoMemory),
+        tally,
+        disk,
+    }
+}
+
+/// What a run over a hub on a disk leaves, once the disk is out of the hub: the run itself stopped for this fault, or for none.
+fn end_hub<D: Disk, N: Begun>(ran: HubRan<DiskHub<D, N>>, fault: Option<PoolFault>) -> PoolEnd<D>
+    ensures ran { (opens : Bool) (turns : ℕ) (old new : Around) → RanPool fault opens turns ran.tally old new → RanPool result.fault opens turns result.tally old new }
+    ensures cause { (disk : ℕ) (old new : PortCounts) → disk ≡ N.begun → AreBlamed old new fault → PoolBlames (with_disk disk old) (with_disk (D.faults result.disk) new) (D.holds result.disk) result.fault }
+{
+    let HubRan { tally, hub } = ran;
+    let ended = hub.end();
+    let (stop, disk) = ended;
+    let why = pool_fault(fault, stop);
+    PoolEnd {
+        fault: why,
+        tally,
+        disk,
+    }
+}
+
+/// Runs a pool of a LAC.
+fn lac_pool<
+    'a,
+    'b: 'a,
+    W: Threads + Wait + Sync,
+    P: Ports,
+    D: Disk + Send + Drop,
+    G: Gate + Sync,
+    N: Begun + Send,
+>(
+    rt: &W,
+    alloc: Global,
+    lac: StoredLac,
+    disk: D,
+    workers: u32,
+    gate: &'b G,
+    serving: &mut PoolServing<'a, P, G>,
+) -> PoolEnd<D>
+    requires begun { D.faults disk ≡ N.begun }
+    requires running { lac.store.journal.halted ≡ false }
+    requires room { HasRoom D.reach D.calls_left lac.store.journal disk }
+    requires stored { IsKept lac.store (D.holds disk) }
+    requires first { serving.old.fault ≡ None }
+    ensures ran { RanPool result.fault serving.old.opens serving.old.turns result.tally (P.around serving.old.ports) (P.around serving.new.ports) }
+    ensures cause { PoolBlames (with_disk (D.faults disk) (P.counts serving.old.ports)) (with_disk (D.faults result.disk) (P.counts serving.new.ports)) (D.holds result.disk) result.fault }
+    ensures loans { P.loans serving.new.ports ≡ P.loans serving.old.ports }
+{
+    let Ok((cores, shared)) = lac_parts(alloc, lac) else {
+        return no_memory(disk);
+    };
+    let Ok(kept) = kept_tunnels(alloc, Role::Lac, cores) else {
+        return no_memory(disk);
+    };
+    let (number, lns) = (shared.shared.config().number, shared.shared.config().lns);
+    let LacShared { shared, access } = shared;
+    let hub: DiskHub<D, N> = DiskHub::new(shared, disk);
+    let hosts = Hosts::new(alloc, number, access);
+    serving.desk = Desk::new(alloc, Role::Lac, hosts, gate);
+    let ran = run_hub(rt, alloc, Role::Lac, lns, kept, hub, workers, gate, serving);
+    end_hub(ran, serving.fault)
+}
+
+/// Runs a pool of an LNS, which has no hosts.
+fn lns_pool<
+    'a,
+    'b: 'a,
+    W: Threads + Wait + Sync,
+    P: Ports,
+    D: Disk + Send + Drop,
+    G: Gate + Sync,
+    N: Begun + Send,
+>(
+    rt: &W,
+    alloc: Global,
+    lns: StoredLns,
+    disk: D,
+    workers: u32,
+    gate: &'b G,
+    serving: &mut PoolServing<'a, P, G>,
+) -> PoolEnd<D>
+    requires begun { D.faults disk ≡ N.begun }
+    requires running { lns.store.journal.halted ≡ false }
+    requires room { HasRoom D.reach D.calls_left lns.store.journal disk }
+    requires stored { IsKept lns.store (D.holds disk) }
+    requires first { serving.old.fault ≡ None }
+    ensures ran { RanPool result.fault serving.old.opens serving.old.turns result.tally (P.around serving.old.ports) (P.around serving.new.ports) }
+    ensures cause { PoolBlames (with_disk (D.faults disk) (P.counts serving.old.ports)) (with_disk (D.faults result.disk) (P.counts serving.new.ports)) (D.holds result.disk) result.fault }
+    ensures loans { P.loans serving.new.ports ≡ P.loans serving.old.ports }
+{
+    let Ok((cores, shared)) = lns_parts(alloc, lns) else {
+        return no_memory(disk);
+    };
+    let Ok(kept) = kept_tunnels(alloc, Role::Lns, cores) else {
+        return no_memory(disk);
+    };
+    let number = shared.config().number;
+    let hub: LnsHub<D, N> = LnsHub::new(shared, disk);
+    let hosts = Hosts::new(alloc, number, no_hosts(alloc));
+    serving.desk = Desk::new(alloc, Role::Lns, hosts, gate);
+    let ran = run_hub(rt, alloc, Role::Lns, 0, kept, hub, workers, gate, serving);
+    end_hub(ran, serving.fault)
+}
+
+/// Runs a pool of either end. What its disk had counted before is the name of its hub.
+fn end_pool<'a, 'b: 'a, W: Threads + Wait + Sync, P: Ports, D: Disk + Send + Drop, G: Gate + Sync>(
+    rt: &W,
+    alloc: Global,
+    end: NodeEnd,
+    disk: D,
+    workers: u32,
+    gate: &'b G,
+    serving: &mut PoolServing<'a, P, G>,
+) -> PoolEnd<D>
+    requires running { (store_of end).journal.halted ≡ false }
+    requires room { IsReady D.reach D.calls_left end disk }
+    requires stored { IsKept (store_of end) (D.holds disk) }
+    requires first { serving.old.fault ≡ None }
+    ensures ran { RanPool result.fault serving.old.opens serving.old.turns result.tally (P.around serving.old.ports) (P.around serving.new.ports) }
+    ensures cause { PoolBlames (with_disk (D.faults disk) (P.counts serving.old.ports)) (with_disk (D.faults result.disk) (P.counts serving.new.ports)) (D.holds result.disk) result.fault }
+    ensures loans { P.loans serving.new.ports ≡ P.loans serving.old.ports }
+{
+    match end {
+        NodeEnd::Lac(lac) => {
+            lac_pool::<W, P, D, G, Brand>(rt, alloc, lac, disk, workers, gate, serving)
+        }
+        NodeEnd::Lns(lns) => {
+            lns_pool::<W, P, D, G, Brand>(rt, alloc, lns, disk, workers, gate, serving)
+        }
+    }
+}
+
+/// Runs a pool: a LAC or an LNS that was opened over its disk and has made no step since, with so many workers beside the calling thread.
+/// It opens a tunnel first, where `opens` says so, at a moment of its own, and then makes so many turns. A turn reads the clock, takes a
+/// datagram, an Ethernet frame and a network frame, each where one waits, and lets time pass. A datagram is put for a worker, and each other
+/// event is a turn of the tunnel that it is for; what is finished is collected in every turn and goes to the ports. Where no thread can be
+/// made, the calling thread does the work.
+///
+/// It ends early with `LinkFault`, `EtherFault` or `UplinkFault` only where the count of that port rose, and then nothing more goes to any
+/// port; with `StoreFault` only where the disk's count rose; with `StoreFull` only where the journal on the disk has so many records and
+/// those of a turn passed the limit; and with `NoMemory`. Then nothing more is taken and put, and what was put is finished. The disk comes back with it.
+pub fn node_pool<
+    W: Threads + Wait + Sync,
+    L: Link,
+    E: Ether,
+    U: Uplink,
+    D: Disk + Send + Drop,
+    C: Clock,
+    R: Rng,
+    G: Gate + Sync,
+>(
+    rt: &W,
+    alloc: Global,
+    end: NodeEnd,
+    link: &mut L,
+    ether: &mut E,
+    up: &mut U,
+    disk: D,
+    clock: &mut C,
+    rng: &mut R,
+    workers: u32,
+    turns: u64,
+    opens: bool,
+    gate: &G,
+) -> PoolEnd<D>
+    requires running { (store_of end).journal.halted ≡ false }
+    requires room { IsReady D.reach D.calls_left end disk }
+    requires stored { IsKept (store_of end) (D.holds disk) }
+    ensures ran { RanPool result.fault opens turns result.tally (around (R.stream rng.old) (C.gives clock.old) (given (L.given link.old) (E.given ether.old) (U.given up.old)) (waits (L.waiting link.old) (E.waiting ether.old) (U.waiting up.old)) (asked (L.asked link.old) (E.asked ether.old) (U.asked up.old))) (around (R.stream rng.new) (C.gives clock.new) (given (L.given link.new) (E.given ether.new) (U.given up.new)) (waits (L.waiting link.new) (E.waiting ether.new) (U.waiting up.new)) (asked (L.asked link.new) (E.asked ether.new) (U.asked up.new))) }
+    ensures cause { PoolBlames (faults (D.faults disk) (L.faults link.old) (E.faults ether.old) (U.faults up.old)) (faults (D.faults result.disk) (L.faults link.new) (E.faults ether.new) (U.faults up.new)) (D.holds result.disk) result.fault }
+{
+    let ports = HeldPorts {
+        alloc,
+        link,
+        ether,
+        up,
+        clock,
+        rng,
+    };
+    let hosts = Hosts::new(alloc, 0, no_hosts(alloc));
+    let mut serving = PoolServing {
+        ports,
+        desk: Desk::new(alloc, Role::Lns, hosts, gate),
+        turns,
+        opens,
+        fault: None,
+    };
+    end_pool(rt, alloc, end, disk, workers, gate, &mut serving)
+}
