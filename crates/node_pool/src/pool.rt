@@ -7,7 +7,7 @@ ghost use Rattle.port_events.specs.Feeding.{given};
 ghost use Rattle.port_turn.specs.Turns.{waits, asked};
 ghost use Rattle.held_ports.specs.Around.{Around, PortCounts, around};
 ghost use Rattle.session_workers.specs.Items.{all_parts};
-ghost use Rattle.session_workers.specs.Passes.{items_of, finished_of, known_of, taken_of, got_of, IsPassIn, IsOpener};
+ghost use Rattle.session_workers.specs.Passes.{items_of, finished_of, known_of, took_of, made_of, got_of, IsPassIn, IsOpener};
 ghost use Rattle.worker_pool.specs.Tallies.{tally_of};
 ghost use Rattle.pool_serving.specs.Faults.{AreBlamed};
 ghost use Rattle.node_run.specs.declared.faults.NodeFault.TheVariants as node;
@@ -65,7 +65,7 @@ fn run_opened<'a, W: Threads + Wait + Sync, P: Ports, H: Hub + Send, G: Gate + S
     serving: &mut PoolServing<'a, P, G>,
 ) -> HubRan<H>
     requires of { IsPassIn shared pass × IsOpener pass }
-    requires none { (known_of pass ≡ []) × (taken_of pass ≡ []) × (got_of pass ≡ []) }
+    requires none { (known_of pass ≡ []) × (took_of pass ≡ []) × (made_of pass ≡ []) × (got_of pass ≡ []) }
     requires all { ((items_of pass).parts ≡ all_parts) × ((finished_of pass).parts ≡ all_parts) }
     requires first { (serving.old.fault ≡ None) × (serving.old.desk.puts ≡ 0) }
     ensures ran { RanPool serving.new.fault serving.old.opens serving.old.turns result.tally (P.around serving.old.ports) (P.around serving.new.ports) }
@@ -160,7 +160,6 @@ fn end_hub<D: Disk, N: Begun>(ran: HubRan<DiskHub<D, N>>, fault: Option<PoolFaul
 /// Runs a pool of a LAC.
 fn lac_pool<
     'a,
-    'b: 'a,
     W: Threads + Wait + Sync,
     P: Ports,
     D: Disk + Send + Drop,
@@ -172,7 +171,7 @@ fn lac_pool<
     lac: StoredLac,
     disk: D,
     workers: u32,
-    gate: &'b G,
+    gate: &G,
     serving: &mut PoolServing<'a, P, G>,
 ) -> PoolEnd<D>
     requires begun { D.faults disk ≡ N.begun }
@@ -194,7 +193,7 @@ fn lac_pool<
     let LacShared { shared, access } = shared;
     let hub: DiskHub<D, N> = DiskHub::new(shared, disk);
     let hosts = Hosts::new(alloc, number, access);
-    serving.desk = Desk::new(alloc, Role::Lac, hosts, gate);
+    serving.desk.set_end(Role::Lac, hosts);
     let ran = run_hub(rt, alloc, Role::Lac, lns, kept, hub, workers, gate, serving);
     end_hub(ran, serving.fault)
 }
@@ -202,7 +201,6 @@ fn lac_pool<
 /// Runs a pool of an LNS, which has no hosts.
 fn lns_pool<
     'a,
-    'b: 'a,
     W: Threads + Wait + Sync,
     P: Ports,
     D: Disk + Send + Drop,
@@ -214,7 +212,7 @@ fn lns_pool<
     lns: StoredLns,
     disk: D,
     workers: u32,
-    gate: &'b G,
+    gate: &G,
     serving: &mut PoolServing<'a, P, G>,
 ) -> PoolEnd<D>
     requires begun { D.faults disk ≡ N.begun }
@@ -235,19 +233,19 @@ fn lns_pool<
     let number = shared.config().number;
     let hub: LnsHub<D, N> = LnsHub::new(shared, disk);
     let hosts = Hosts::new(alloc, number, no_hosts(alloc));
-    serving.desk = Desk::new(alloc, Role::Lns, hosts, gate);
+    serving.desk.set_end(Role::Lns, hosts);
     let ran = run_hub(rt, alloc, Role::Lns, 0, kept, hub, workers, gate, serving);
     end_hub(ran, serving.fault)
 }
 
 /// Runs a pool of either end. What its disk had counted before is the name of its hub.
-fn end_pool<'a, 'b: 'a, W: Threads + Wait + Sync, P: Ports, D: Disk + Send + Drop, G: Gate + Sync>(
+fn end_pool<'a, W: Threads + Wait + Sync, P: Ports, D: Disk + Send + Drop, G: Gate + Sync>(
     rt: &W,
     alloc: Global,
     end: NodeEnd,
     disk: D,
     workers: u32,
-    gate: &'b G,
+    gate: &G,
     serving: &mut PoolServing<'a, P, G>,
 ) -> PoolEnd<D>
     requires running { (store_of end).journal.halted ≡ false }

@@ -43,4 +43,15 @@ impl<'a, G: Gate> Desk<'a, G> {
             puts: 0,
         }
     }
+
+    /// Becomes the desk of an end of this kind with these hosts, which was given and put nothing. Its gate stays.
+    pub fn set_end(&mut self, role: Role, hosts: Hosts)
+        ensures none { (self.new.given ≡ 0) × (self.new.puts ≡ 0) }
+        ensures hosts { self.new.hosts ≡ hosts }
+    {
+        self.lns = matches!(role, Role::Lns);
+        self.hosts = hosts;
+        self.given = 0;
+        self.puts = 0;
+    }
 }
