@@ -61,7 +61,6 @@ fn run_opened<'a, W: Threads + Wait + Sync, P: Ports, H: Hub + Send, G: Gate + S
     shared: Shared<H>,
     pass: Pass,
     workers: u32,
-    gate: &G,
     serving: &mut PoolServing<'a, P, G>,
 ) -> HubRan<H>
     requires of { IsPassIn shared pass × IsOpener pass }
@@ -74,6 +73,7 @@ fn run_opened<'a, W: Threads + Wait + Sync, P: Ports, H: Hub + Send, G: Gate + S
 {
     let opened = open_pool(shared, pass);
     let (pool, mut pass) = opened;
+    let gate = serving.desk.gate();
     let tally = pool_run(rt, &pool, &mut pass, workers, gate, serving);
     HubRan {
         tally,
@@ -90,7 +90,6 @@ fn run_hub<'a, W: Threads + Wait + Sync, P: Ports, H: Hub + Send, G: Gate + Sync
     kept: Vec<KeptTunnel>,
     hub: H,
     workers: u32,
-    gate: &G,
     serving: &mut PoolServing<'a, P, G>,
 ) -> HubRan<H>
     requires first { (serving.old.fault ≡ None) × (serving.old.desk.puts ≡ 0) }
@@ -99,7 +98,7 @@ fn run_hub<'a, W: Threads + Wait + Sync, P: Ports, H: Hub + Send, G: Gate + Sync
     ensures loans { P.loans serving.new.ports ≡ P.loans serving.old.ports }
 {
     match open_shared(alloc, role, lns, kept, hub) {
-        Ok((shared, pass)) => run_opened(rt, shared, pass, workers, gate, serving),
+        Ok((shared, pass)) => run_opened(rt, shared, pass, workers, serving),
         Err(hub) => {
             serving.fault = Some(TurnFault::NoMemory);
             let tally = no_tally();
@@ -171,7 +170,6 @@ fn lac_pool<
     lac: StoredLac,
     disk: D,
     workers: u32,
-    gate: &G,
     serving: &mut PoolServing<'a, P, G>,
 ) -> PoolEnd<D>
     requires begun { D.faults disk ≡ N.begun }
@@ -194,7 +192,7 @@ fn lac_pool<
     let hub: DiskHub<D, N> = DiskHub::new(shared, disk);
     let hosts = Hosts::new(alloc, number, access);
     serving.desk.set_end(Role::Lac, hosts);
-    let ran = run_hub(rt, alloc, Role::Lac, lns, kept, hub, workers, gate, serving);
+    let ran = run_hub(rt, alloc, Role::Lac, lns, kept, hub, workers, serving);
     end_hub(ran, serving.fault)
 }
 
@@ -212,7 +210,6 @@ fn lns_pool<
     lns: StoredLns,
     disk: D,
     workers: u32,
-    gate: &G,
     serving: &mut PoolServing<'a, P, G>,
 ) -> PoolEnd<D>
     requires begun { D.faults disk ≡ N.begun }
@@ -234,7 +231,7 @@ fn lns_pool<
     let hub: LnsHub<D, N> = LnsHub::new(shared, disk);
     let hosts = Hosts::new(alloc, number, no_hosts(alloc));
     serving.desk.set_end(Role::Lns, hosts);
-    let ran = run_hub(rt, alloc, Role::Lns, 0, kept, hub, workers, gate, serving);
+    let ran = run_hub(rt, alloc, Role::Lns, 0, kept, hub, workers, serving);
     end_hub(ran, serving.fault)
 }
 
@@ -245,7 +242,6 @@ fn end_pool<'a, W: Threads + Wait + Sync, P: Ports, D: Disk + Send + Drop, G: Ga
     end: NodeEnd,
     disk: D,
     workers: u32,
-    gate: &G,
     serving: &mut PoolServing<'a, P, G>,
 ) -> PoolEnd<D>
     requires running { (store_of end).journal.halted ≡ false }
@@ -258,10 +254,10 @@ fn end_pool<'a, W: Threads + Wait + Sync, P: Ports, D: Disk + Send + Drop, G: Ga
 {
     match end {
         NodeEnd::Lac(lac) => {
-            lac_pool::<W, P, D, G, Brand>(rt, alloc, lac, disk, workers, gate, serving)
+            lac_pool::<W, P, D, G, Brand>(rt, alloc, lac, disk, workers, serving)
         }
         NodeEnd::Lns(lns) => {
-            lns_pool::<W, P, D, G, Brand>(rt, alloc, lns, disk, workers, gate, serving)
+            lns_pool::<W, P, D, G, Brand>(rt, alloc, lns, disk, workers, serving)
         }
     }
 }
@@ -276,6 +272,7 @@ fn end_pool<'a, W: Threads + Wait + Sync, P: Ports, D: Disk + Send + Drop, G: Ga
 /// port; with `StoreFault` only where the disk's count rose; with `StoreFull` only where the journal on the disk has so many records and
 /// those of a turn passed the limit; and with `NoMemory`. Then nothing more is taken and put, and what was put is finished. The disk comes back with it.
 pub fn node_pool<
+    'p,
     W: Threads + Wait + Sync,
     L: Link,
     E: Ether,
@@ -288,16 +285,16 @@ pub fn node_pool<
     rt: &W,
     alloc: Global,
     end: NodeEnd,
-    link: &mut L,
-    ether: &mut E,
-    up: &mut U,
+    link: &'p mut L,
+    ether: &'p mut E,
+    up: &'p mut U,
     disk: D,
-    clock: &mut C,
-    rng: &mut R,
+    clock: &'p mut C,
+    rng: &'p mut R,
     workers: u32,
     turns: u64,
     opens: bool,
-    gate: &G,
+    gate: &'p G,
 ) -> PoolEnd<D>
     requires running { (store_of end).journal.halted ≡ false }
     requires room { IsReady D.reach D.calls_left end disk }
@@ -321,5 +318,5 @@ pub fn node_pool<
         opens,
         fault: None,
     };
-    end_pool(rt, alloc, end, disk, workers, gate, &mut serving)
+    end_pool(rt, alloc, end, disk, workers, &mut serving)
 }

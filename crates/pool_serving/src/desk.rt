@@ -44,6 +44,11 @@ impl<'a, G: Gate> Desk<'a, G> {
         }
     }
 
+    /// The gate that it was made with.
+    pub fn gate(&self) -> &'a G {
+        self.gate
+    }
+
     /// Becomes the desk of an end of this kind with these hosts, which was given and put nothing. Its gate stays.
     pub fn set_end(&mut self, role: Role, hosts: Hosts)
         ensures none { (self.new.given ≡ 0) × (self.new.puts ≡ 0) }
