@@ -79,11 +79,11 @@ as_many p fs numbers done =
     omega (arith, all, puts, same, are)
 
 module _ {P G : Type 0} (around : P → Around) (counts : P → PortCounts) (loans : P → Loans) where
-  pub ran_pool : (before after : PoolServing P G) (p : PoolPass) (t : Tally) (k : ℕ) → PoolServes around counts loans before after → before.fault ≡ None → before.desk.puts ≡ 0
-      → k ≡ 0 → after.desk.puts + k ≡ before.desk.puts + length (known_of p.pass) → IsTallyOf (taken_of p.pass) t → AllDone p
-      → RanPool after.fault before.opens before.turns t (around before.ports) (around after.ports)
+  pub ran_pool : (before after : PoolServing P G) (p : PoolPass) (t : Tally) (k : ℕ) → PoolServes around counts loans before after → before.fault ≡ None → before.desk.now.puts ≡ 0
+      → k ≡ 0 → after.desk.now.puts + k ≡ before.desk.now.puts + length (known_of p.pass) → IsTallyOf (taken_of p.pass) t → AllDone p
+      → RanPool after.fault before.opens before.turns t (around before.ports.now) (around after.ports.now)
   ran_pool before after p t k serves none first nothing puts tally done =
-      let put : after.desk.puts ≡ before.desk.puts + length serves.ps = serves.puts in
+      let put : after.desk.now.puts ≡ before.desk.now.puts + length serves.ps = serves.puts in
       let many = as_many p tally.0 tally.1 done in
       record {
         ps = serves.ps;
@@ -95,9 +95,9 @@ module _ {P G : Type 0} (around : P → Around) (counts : P → PortCounts) (loa
 
   -- of queues that were just opened
   pub ran_opened : (before after : PoolServing P G) (q p : PoolPass) (pass : Pass) (t : Tally) → q.pass ≡ pass → known_of pass ≡ []
-      → ((items_of pass).parts ≡ all_parts) × ((finished_of pass).parts ≡ all_parts) → PoolServes around counts loans before after → before.fault ≡ None → before.desk.puts ≡ 0
-      → after.desk.puts + length (known_of q.pass) ≡ before.desk.puts + length (known_of p.pass) → IsTallyOf (taken_of p.pass) t → (IsAlone q → AllDone p)
-      → RanPool after.fault before.opens before.turns t (around before.ports) (around after.ports)
+      → ((items_of pass).parts ≡ all_parts) × ((finished_of pass).parts ≡ all_parts) → PoolServes around counts loans before after → before.fault ≡ None → before.desk.now.puts ≡ 0
+      → after.desk.now.puts + length (known_of q.pass) ≡ before.desk.now.puts + length (known_of p.pass) → IsTallyOf (taken_of p.pass) t → (IsAlone q → AllDone p)
+      → RanPool after.fault before.opens before.turns t (around before.ports.now) (around after.ports.now)
   ran_opened before after q p pass t same nothing all serves none first puts tally done =
       let known : length (known_of q.pass) ≡ 0 = ap (λ (x : Pass). length (known_of x)) same ∙ ap length nothing in
       let alone : IsAlone q = (ap (λ (x : Pass). (items_of x).parts) same ∙ all.0, ap (λ (x : Pass). (finished_of x).parts) same ∙ all.1) in

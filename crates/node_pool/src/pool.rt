@@ -25,7 +25,7 @@ use lac_core::LacAccess;
 use locked_tunnels::KeptTunnel;
 use node_run::{NodeEnd, NodeFault};
 use pool_giving::Hosts;
-use pool_serving::{Desk, PoolFault, PoolServing};
+use pool_serving::{Desk, LentGate, PoolFault, PoolServing};
 use port_events::TurnFault;
 use port_traits::{Clock, Ether, Link, Uplink};
 use pppoe_session::Table;
@@ -48,61 +48,106 @@ pub struct PoolEnd<D> {
     pub disk: D,
 }
 
-/// What a run over a hub leaves.
+/// What a run over a hub leaves: why it stopped, what became of the datagrams, and the hub.
 #[derive(Drop)]
 struct HubRan<H: Hub> {
+    fault: Option<PoolFault>,
     tally: Tally,
     hub: H,
 }
 
 /// Runs a pool over queues that were just opened, and gives the hub back.
-fn run_opened<'a, W: Threads + Wait + Sync, P: Ports, H: Hub + Send, G: Gate + Sync>(
+fn run_opened<'a, W: Threads + Wait + Sync, P: Ports, H: Hub + Send, F: Gate, G: Gate + Sync>(
     rt: &W,
     shared: Shared<H>,
     pass: Pass,
     workers: u32,
-    serving: &mut PoolServing<'a, P, G>,
+    gate: &G,
+    serving: &mut PoolServing<'a, P, F>,
 ) -> HubRan<H>
     requires of { IsPassIn shared pass × IsOpener pass }
     requires none { (known_of pass ≡ []) × (took_of pass ≡ []) × (made_of pass ≡ []) × (got_of pass ≡ []) }
     requires all { ((items_of pass).parts ≡ all_parts) × ((finished_of pass).parts ≡ all_parts) }
-    requires first { (serving.old.fault ≡ None) × (serving.old.desk.puts ≡ 0) }
-    ensures ran { RanPool serving.new.fault serving.old.opens serving.old.turns result.tally (P.around serving.old.ports) (P.around serving.new.ports) }
-    ensures blamed { AreBlamed (P.counts serving.old.ports) (P.counts serving.new.ports) serving.new.fault }
-    ensures loans { P.loans serving.new.ports ≡ P.loans serving.old.ports }
+    requires first { (serving.old.fault ≡ None) × (serving.old.desk.now.puts ≡ 0) }
+    ensures fault { result.fault ≡ serving.new.fault }
+    ensures ran { RanPool serving.new.fault serving.old.opens serving.old.turns result.tally (P.around serving.old.ports.now) (P.around serving.new.ports.now) }
+    ensures blamed { AreBlamed (P.counts serving.old.ports.now) (P.counts serving.new.ports.now) serving.new.fault }
+    ensures loans { P.loans serving.new.ports.now ≡ P.loans serving.old.ports.now }
+    ensures lent { (serving.new.ports.ghost_name ≡ serving.old.ports.ghost_name) × (serving.new.desk.ghost_name ≡ serving.old.desk.ghost_name) }
 {
     let opened = open_pool(shared, pass);
     let (pool, mut pass) = opened;
-    let gate = serving.desk.gate();
     let tally = pool_run(rt, &pool, &mut pass, workers, gate, serving);
     HubRan {
+        fault: serving.fault,
         tally,
         hub: pool.into_shared().into_hub(),
     }
 }
 
+/// Runs a pool over queues that were just opened, with a desk of an end of this kind and these hosts.
+fn run_desk<W: Threads + Wait + Sync, P: Ports, H: Hub + Send, F: Gate, G: Gate + Sync>(
+    rt: &W,
+    shared: Shared<H>,
+    pass: Pass,
+    workers: u32,
+    desk: &mut Desk<F>,
+    gate: &G,
+    turns: u64,
+    opens: bool,
+    ports: &mut P,
+) -> HubRan<H>
+    requires of { IsPassIn shared pass × IsOpener pass }
+    requires none { (known_of pass ≡ []) × (took_of pass ≡ []) × (made_of pass ≡ []) × (got_of pass ≡ []) }
+    requires all { ((items_of pass).parts ≡ all_parts) × ((finished_of pass).parts ≡ all_parts) }
+    requires first { desk.old.puts ≡ 0 }
+    ensures ran { RanPool result.fault opens turns result.tally (P.around ports.old) (P.around ports.new) }
+    ensures blamed { AreBlamed (P.counts ports.old) (P.counts ports.new) result.fault }
+    ensures loans { P.loans ports.new ≡ P.loans ports.old }
+{
+    let mut serving = PoolServing {
+        ports,
+        desk,
+        turns,
+        opens,
+        fault: None,
+    };
+    run_opened(rt, shared, pass, workers, gate, &mut serving)
+}
+
 /// Runs a pool over a hub, and gives the hub back, of which nothing is known but what its type keeps.
-fn run_hub<'a, W: Threads + Wait + Sync, P: Ports, H: Hub + Send, G: Gate + Sync>(
+fn run_hub<W: Threads + Wait + Sync, P: Ports, H: Hub + Send, G: Gate + Sync>(
     rt: &W,
     alloc: Global,
     role: Role,
     lns: u32,
     kept: Vec<KeptTunnel>,
     hub: H,
+    hosts: Hosts,
     workers: u32,
-    serving: &mut PoolServing<'a, P, G>,
+    gate: &G,
+    turns: u64,
+    opens: bool,
+    ports: &mut P,
 ) -> HubRan<H>
-    requires first { (serving.old.fault ≡ None) × (serving.old.desk.puts ≡ 0) }
-    ensures ran { RanPool serving.new.fault serving.old.opens serving.old.turns result.tally (P.around serving.old.ports) (P.around serving.new.ports) }
-    ensures blamed { AreBlamed (P.counts serving.old.ports) (P.counts serving.new.ports) serving.new.fault }
-    ensures loans { P.loans serving.new.ports ≡ P.loans serving.old.ports }
+    ensures ran { RanPool result.fault opens turns result.tally (P.around ports.old) (P.around ports.new) }
+    ensures blamed { AreBlamed (P.counts ports.old) (P.counts ports.new) result.fault }
+    ensures loans { P.loans ports.new ≡ P.loans ports.old }
 {
     match open_shared(alloc, role, lns, kept, hub) {
-        Ok((shared, pass)) => run_opened(rt, shared, pass, workers, serving),
+        Ok((shared, pass)) => {
+            let mut desk = Desk::new(alloc, role, hosts, LentGate { gate });
+            run_desk(
+                rt, shared, pass, workers, &mut desk, gate, turns, opens, ports,
+            )
+        }
         Err(hub) => {
-            serving.fault = Some(TurnFault::NoMemory);
             let tally = no_tally();
-            HubRan { tally, hub }
+            HubRan {
+                fault: Some(TurnFault::NoMemory),
+                tally,
+                hub,
+            }
         }
     }
 }
@@ -140,12 +185,12 @@ fn no_memory<D>(disk: D) -> PoolEnd<D>
     }
 }
 
-/// What a run over a hub on a disk leaves, once the disk is out of the hub: the run itself stopped for this fault, or for none.
-fn end_hub<D: Disk, N: Begun>(ran: HubRan<DiskHub<D, N>>, fault: Option<PoolFault>) -> PoolEnd<D>
-    ensures ran { (opens : Bool) (turns : ℕ) (old new : Around) → RanPool fault opens turns ran.tally old new → RanPool result.fault opens turns result.tally old new }
-    ensures cause { (disk : ℕ) (old new : PortCounts) → disk ≡ N.begun → AreBlamed old new fault → PoolBlames (with_disk disk old) (with_disk (D.faults result.disk) new) (D.holds result.disk) result.fault }
+/// What a run over a hub on a disk leaves, once the disk is out of the hub.
+fn end_hub<D: Disk, N: Begun>(ran: HubRan<DiskHub<D, N>>) -> PoolEnd<D>
+    ensures ran { (opens : Bool) (turns : ℕ) (old new : Around) → RanPool ran.fault opens turns ran.tally old new → RanPool result.fault opens turns result.tally old new }
+    ensures cause { (disk : ℕ) (old new : PortCounts) → disk ≡ N.begun → AreBlamed old new ran.fault → PoolBlames (with_disk disk old) (with_disk (D.faults result.disk) new) (D.holds result.disk) result.fault }
 {
-    let HubRan { tally, hub } = ran;
+    let HubRan { fault, tally, hub } = ran;
     let ended = hub.end();
     let (stop, disk) = ended;
     let why = pool_fault(fault, stop);
@@ -158,7 +203,6 @@ fn end_hub<D: Disk, N: Begun>(ran: HubRan<DiskHub<D, N>>, fault: Option<PoolFaul
 
 /// Runs a pool of a LAC.
 fn lac_pool<
-    'a,
     W: Threads + Wait + Sync,
     P: Ports,
     D: Disk + Send + Drop,
@@ -170,16 +214,18 @@ fn lac_pool<
     lac: StoredLac,
     disk: D,
     workers: u32,
-    serving: &mut PoolServing<'a, P, G>,
+    gate: &G,
+    turns: u64,
+    opens: bool,
+    ports: &mut P,
 ) -> PoolEnd<D>
     requires begun { D.faults disk ≡ N.begun }
     requires running { lac.store.journal.halted ≡ false }
     requires room { HasRoom D.reach D.calls_left lac.store.journal disk }
     requires stored { IsKept lac.store (D.holds disk) }
-    requires first { serving.old.fault ≡ None }
-    ensures ran { RanPool result.fault serving.old.opens serving.old.turns result.tally (P.around serving.old.ports) (P.around serving.new.ports) }
-    ensures cause { PoolBlames (with_disk (D.faults disk) (P.counts serving.old.ports)) (with_disk (D.faults result.disk) (P.counts serving.new.ports)) (D.holds result.disk) result.fault }
-    ensures loans { P.loans serving.new.ports ≡ P.loans serving.old.ports }
+    ensures ran { RanPool result.fault opens turns result.tally (P.around ports.old) (P.around ports.new) }
+    ensures cause { PoolBlames (with_disk (D.faults disk) (P.counts ports.old)) (with_disk (D.faults result.disk) (P.counts ports.new)) (D.holds result.disk) result.fault }
+    ensures loans { P.loans ports.new ≡ P.loans ports.old }
 {
     let Ok((cores, shared)) = lac_parts(alloc, lac) else {
         return no_memory(disk);
@@ -191,14 +237,25 @@ fn lac_pool<
     let LacShared { shared, access } = shared;
     let hub: DiskHub<D, N> = DiskHub::new(shared, disk);
     let hosts = Hosts::new(alloc, number, access);
-    serving.desk.set_end(Role::Lac, hosts);
-    let ran = run_hub(rt, alloc, Role::Lac, lns, kept, hub, workers, serving);
-    end_hub(ran, serving.fault)
+    let ran = run_hub(
+        rt,
+        alloc,
+        Role::Lac,
+        lns,
+        kept,
+        hub,
+        hosts,
+        workers,
+        gate,
+        turns,
+        opens,
+        ports,
+    );
+    end_hub(ran)
 }
 
 /// Runs a pool of an LNS, which has no hosts.
 fn lns_pool<
-    'a,
     W: Threads + Wait + Sync,
     P: Ports,
     D: Disk + Send + Drop,
@@ -210,16 +267,18 @@ fn lns_pool<
     lns: StoredLns,
     disk: D,
     workers: u32,
-    serving: &mut PoolServing<'a, P, G>,
+    gate: &G,
+    turns: u64,
+    opens: bool,
+    ports: &mut P,
 ) -> PoolEnd<D>
     requires begun { D.faults disk ≡ N.begun }
     requires running { lns.store.journal.halted ≡ false }
     requires room { HasRoom D.reach D.calls_left lns.store.journal disk }
     requires stored { IsKept lns.store (D.holds disk) }
-    requires first { serving.old.fault ≡ None }
-    ensures ran { RanPool result.fault serving.old.opens serving.old.turns result.tally (P.around serving.old.ports) (P.around serving.new.ports) }
-    ensures cause { PoolBlames (with_disk (D.faults disk) (P.counts serving.old.ports)) (with_disk (D.faults result.disk) (P.counts serving.new.ports)) (D.holds result.disk) result.fault }
-    ensures loans { P.loans serving.new.ports ≡ P.loans serving.old.ports }
+    ensures ran { RanPool result.fault opens turns result.tally (P.around ports.old) (P.around ports.new) }
+    ensures cause { PoolBlames (with_disk (D.faults disk) (P.counts ports.old)) (with_disk (D.faults result.disk) (P.counts ports.new)) (D.holds result.disk) result.fault }
+    ensures loans { P.loans ports.new ≡ P.loans ports.old }
 {
     let Ok((cores, shared)) = lns_parts(alloc, lns) else {
         return no_memory(disk);
@@ -230,35 +289,49 @@ fn lns_pool<
     let number = shared.config().number;
     let hub: LnsHub<D, N> = LnsHub::new(shared, disk);
     let hosts = Hosts::new(alloc, number, no_hosts(alloc));
-    serving.desk.set_end(Role::Lns, hosts);
-    let ran = run_hub(rt, alloc, Role::Lns, 0, kept, hub, workers, serving);
-    end_hub(ran, serving.fault)
+    let ran = run_hub(
+        rt,
+        alloc,
+        Role::Lns,
+        0,
+        kept,
+        hub,
+        hosts,
+        workers,
+        gate,
+        turns,
+        opens,
+        ports,
+    );
+    end_hub(ran)
 }
 
 /// Runs a pool of either end. What its disk had counted before is the name of its hub.
-fn end_pool<'a, W: Threads + Wait + Sync, P: Ports, D: Disk + Send + Drop, G: Gate + Sync>(
+fn end_pool<W: Threads + Wait + Sync, P: Ports, D: Disk + Send + Drop, G: Gate + Sync>(
     rt: &W,
     alloc: Global,
     end: NodeEnd,
     disk: D,
     workers: u32,
-    serving: &mut PoolServing<'a, P, G>,
+    gate: &G,
+    turns: u64,
+    opens: bool,
+    ports: &mut P,
 ) -> PoolEnd<D>
     requires running { (store_of end).journal.halted ≡ false }
     requires room { IsReady D.reach D.calls_left end disk }
     requires stored { IsKept (store_of end) (D.holds disk) }
-    requires first { serving.old.fault ≡ None }
-    ensures ran { RanPool result.fault serving.old.opens serving.old.turns result.tally (P.around serving.old.ports) (P.around serving.new.ports) }
-    ensures cause { PoolBlames (with_disk (D.faults disk) (P.counts serving.old.ports)) (with_disk (D.faults result.disk) (P.counts serving.new.ports)) (D.holds result.disk) result.fault }
-    ensures loans { P.loans serving.new.ports ≡ P.loans serving.old.ports }
+    ensures ran { RanPool result.fault opens turns result.tally (P.around ports.old) (P.around ports.new) }
+    ensures cause { PoolBlames (with_disk (D.faults disk) (P.counts ports.old)) (with_disk (D.faults result.disk) (P.counts ports.new)) (D.holds result.disk) result.fault }
+    ensures loans { P.loans ports.new ≡ P.loans ports.old }
 {
     match end {
-        NodeEnd::Lac(lac) => {
-            lac_pool::<W, P, D, G, Brand>(rt, alloc, lac, disk, workers, serving)
-        }
-        NodeEnd::Lns(lns) => {
-            lns_pool::<W, P, D, G, Brand>(rt, alloc, lns, disk, workers, serving)
-        }
+        NodeEnd::Lac(lac) => lac_pool::<W, P, D, G, Brand>(
+            rt, alloc, lac, disk, workers, gate, turns, opens, ports,
+        ),
+        NodeEnd::Lns(lns) => lns_pool::<W, P, D, G, Brand>(
+            rt, alloc, lns, disk, workers, gate, turns, opens, ports,
+        ),
     }
 }
 
@@ -272,7 +345,6 @@ fn end_pool<'a, W: Threads + Wait + Sync, P: Ports, D: Disk + Send + Drop, G: Ga
 /// port; with `StoreFault` only where the disk's count rose; with `StoreFull` only where the journal on the disk has so many records and
 /// those of a turn passed the limit; and with `NoMemory`. Then nothing more is taken and put, and what was put is finished. The disk comes back with it.
 pub fn node_pool<
-    'p,
     W: Threads + Wait + Sync,
     L: Link,
     E: Ether,
@@ -285,16 +357,16 @@ pub fn node_pool<
     rt: &W,
     alloc: Global,
     end: NodeEnd,
-    link: &'p mut L,
-    ether: &'p mut E,
-    up: &'p mut U,
+    link: &mut L,
+    ether: &mut E,
+    up: &mut U,
     disk: D,
-    clock: &'p mut C,
-    rng: &'p mut R,
+    clock: &mut C,
+    rng: &mut R,
     workers: u32,
     turns: u64,
     opens: bool,
-    gate: &'p G,
+    gate: &G,
 ) -> PoolEnd<D>
     requires running { (store_of end).journal.halted ≡ false }
     requires room { IsReady D.reach D.calls_left end disk }
@@ -302,7 +374,7 @@ pub fn node_pool<
     ensures ran { RanPool result.fault opens turns result.tally (around (R.stream rng.old) (C.gives clock.old) (given (L.given link.old) (E.given ether.old) (U.given up.old)) (waits (L.waiting link.old) (E.waiting ether.old) (U.waiting up.old)) (asked (L.asked link.old) (E.asked ether.old) (U.asked up.old))) (around (R.stream rng.new) (C.gives clock.new) (given (L.given link.new) (E.given ether.new) (U.given up.new)) (waits (L.waiting link.new) (E.waiting ether.new) (U.waiting up.new)) (asked (L.asked link.new) (E.asked ether.new) (U.asked up.new))) }
     ensures cause { PoolBlames (faults (D.faults disk) (L.faults link.old) (E.faults ether.old) (U.faults up.old)) (faults (D.faults result.disk) (L.faults link.new) (E.faults ether.new) (U.faults up.new)) (D.holds result.disk) result.fault }
 {
-    let ports = HeldPorts {
+    let mut ports = HeldPorts {
         alloc,
         link,
         ether,
@@ -310,13 +382,7 @@ pub fn node_pool<
         clock,
         rng,
     };
-    let hosts = Hosts::new(alloc, 0, no_hosts(alloc));
-    let mut serving = PoolServing {
-        ports,
-        desk: Desk::new(alloc, Role::Lns, hosts, gate),
-        turns,
-        opens,
-        fault: None,
-    };
-    end_pool(rt, alloc, end, disk, workers, &mut serving)
+    end_pool(
+        rt, alloc, end, disk, workers, gate, turns, opens, &mut ports,
+    )
 }

@@ -1,5 +1,5 @@
 -- Whom an end hands frames up to, and tells that their calls ended, and what its turns give to the ports by that.
-use Rattle.std.specs.Prelude.{⊤, ℕ, ◌≡◌, Bool, true, false, List, ◌∷◌, ◌++◌, map, Option, Some, None}
+use Rattle.std.specs.Prelude.{ℕ, ◌≡◌, Bool, true, false, List, ◌∷◌, ◌++◌, map, Option, Some, None}
 use Rattle.wire_base.specs.declared.letter.Side.{Side}
 use Rattle.wire_base.specs.declared.letter.Side.TheVariants.{Sub, Net, Lcp}
 use Rattle.pppoe_wire.specs.Spelling.{Head}
@@ -27,11 +27,6 @@ pub record Hosted : Type 0 where
 -- whoever was told stays told
 abbrev pub KeepsTold : Hosted → Hosted → Type 0
 KeepsTold old new = (session : ℕ) (mac : List ℕ) → holder_of old.told session ≡ Some mac → holder_of new.told session ≡ Some mac
-
--- it is nobody, or whom the call's tunnel told
-abbrev pub IsTold : Hosted → ℕ → Option (List ℕ) → Type 0
-IsTold h session None = ⊤
-IsTold h session (Some mac) = holder_of h.told session ≡ Some mac
 
 -- where a session is given to a host that rings, if one is, and taken back where it was given
 abbrev pub held_with : List (ℕ × Subscriber) → Option ℕ → List ℕ → Option (List ℕ) → List (ℕ × Subscriber)

@@ -9,7 +9,7 @@ use Rattle.held_ports.specs.Around.{Around, PortCounts, Loans}
 use Rattle.pool_turns.specs.Turns.{Put, Draws, BreaksOff, RanTo}
 use Rattle.pool_turns.proofs.Following.{gives_more, is_one_of, breaks_then}
 use Rattle.pool_serving.specs.declared.serving.PoolServing.{PoolServing}
-use Rattle.pool_serving.specs.Faults.{is_of_port, is_cut_off, then_fault, fault_then, told_by, OnCalm, AreBlamed}
+use Rattle.pool_serving.specs.Faults.{is_of_port, is_cut_off, then_fault, fault_then, told_by, has_stopped, OnCalm, AreBlamed}
 use Rattle.pool_giving.specs.Hosts.{KeepsTold}
 use Rattle.worker_pool.specs.declared.pass.PoolPass.{PoolPass}
 use Rattle.pool_serving.specs.Handing.{InStep, puts_in}
@@ -68,17 +68,18 @@ pub not_port : (f : Option (TurnFault StepError)) → is_cut_off f ≡ false →
 not_port None e = tt
 not_port (Some f) e = e
 
-module _ (A : Type 0) where
+module _ (A : Bool → Type 0) (more : A false → A true) where
   -- what holds unless a port failed, of an earlier fault that is none of a port
-  on_calm : (f : Option (TurnFault StepError)) → A → OnCalm (told_by f) A
+  on_calm : (f : Option (TurnFault StepError)) → A false → OnCalm (told_by f) (A (has_stopped (told_by f)))
   on_calm None h = h
   on_calm (Some LinkFault) h = tt
   on_calm (Some EtherFault) h = tt
   on_calm (Some UplinkFault) h = tt
-  on_calm (Some NoMemory) h = h
-  on_calm (Some (Stopped e)) h = h
+  on_calm (Some NoMemory) h = more h
+  on_calm (Some (Stopped e)) h = more h
 
-  pub calm_then : (f : Option (TurnFault StepError)) (r : Result ⊤ (TurnFault StepError)) → NotPort f → OnCalm r A → OnCalm (told_by (fault_then f r)) A
+  pub calm_then : (f : Option (TurnFault StepError)) (r : Result ⊤ (TurnFault StepError)) → NotPort f → OnCalm r (A (has_stopped r))
+      → OnCalm (told_by (fault_then f r)) (A (has_stopped (told_by (fault_then f r))))
   calm_then f (Ok x) n h = on_calm f h
   calm_then None (Err g) n h = h
   calm_then (Some NoMemory) (Err LinkFault) n h = tt
@@ -95,6 +96,7 @@ module _ (A : Type 0) where
   calm_then (Some EtherFault) (Err g) n h = absurd (true_false n)
   calm_then (Some UplinkFault) (Err g) n h = absurd (true_false n)
 
+module _ (A : Type 0) where
   -- where a port had failed nothing is said
   pub calm_not : (f : Option (TurnFault StepError)) → is_cut_off f ≡ true → OnCalm (told_by f) A
   calm_not None e = absurd (true_false (sym e))
@@ -127,47 +129,53 @@ ran_by (Some f) opens turns p q a b ok err = err
 -- ---- what is given back
 
 module _ {P G : Type 0} (around : P → Around) (counts : P → PortCounts) (loans : P → Loans) where
-  module _ (s a b : PoolServing P G) (h : PoolServes around counts loans s a) (held : loans b.ports ≡ loans a.ports) (turns : b.turns ≡ a.turns) (opens : b.opens ≡ a.opens)
-      (told : KeepsTold a.desk.hosts b.desk.hosts) (puts : b.desk.puts ≡ a.desk.puts) (grows : Draws 0 (around a.ports) (around b.ports)) where
+  module _ (s a b : PoolServing P G) (h : PoolServes around counts loans s a) (ports : b.ports.ghost_name ≡ a.ports.ghost_name) (desk : b.desk.ghost_name ≡ a.desk.ghost_name) (held : loans b.ports.now ≡ loans a.ports.now) (turns : b.turns ≡ a.turns) (opens : b.opens ≡ a.opens)
+      (told : KeepsTold a.desk.now.hosts b.desk.now.hosts) (puts : b.desk.now.puts ≡ a.desk.now.puts) (grows : Draws 0 (around a.ports.now) (around b.ports.now)) where
     -- nothing failed
-    pub serves_on : b.fault ≡ a.fault → counts b.ports ≡ counts a.ports → PoolServes around counts loans s b
+    pub serves_on : b.fault ≡ a.fault → counts b.ports.now ≡ counts a.ports.now → PoolServes around counts loans s b
     serves_on same still = record {
+      ports = ports ∙ h.ports;
+      desk = desk ∙ h.desk;
       held = held ∙ h.held;
       turns = turns ∙ h.turns;
       opens = opens ∙ h.opens;
-      told = told_then s.desk.hosts a.desk.hosts b.desk.hosts h.told told;
+      told = told_then s.desk.now.hosts a.desk.now.hosts b.desk.now.hosts h.told told;
       ps = h.ps;
       puts = puts ∙ h.puts;
-      blames = λ n. subst (λ (k : PortCounts). AreBlamed (counts s.ports) k b.fault) (sym still) (subst (λ f. AreBlamed (counts s.ports) (counts a.ports) f) (sym same) (h.blames n));
-      ran = λ n. subst (λ f. RanTo f s.opens s.turns h.ps (around s.ports) (around b.ports)) (sym same)
-          (ran_on a.fault s.opens s.turns h.ps (around s.ports) (around a.ports) (around b.ports) (h.ran n) grows);
+      blames = λ n. subst (λ (k : PortCounts). AreBlamed (counts s.ports.now) k b.fault) (sym still) (subst (λ f. AreBlamed (counts s.ports.now) (counts a.ports.now) f) (sym same) (h.blames n));
+      ran = λ n. subst (λ f. RanTo f s.opens s.turns h.ps (around s.ports.now) (around b.ports.now)) (sym same)
+          (ran_on a.fault s.opens s.turns h.ps (around s.ports.now) (around a.ports.now) (around b.ports.now) (h.ran n) grows);
     }
 
     -- it stopped then, where no port had failed before
-    pub serves_short : (g : TurnFault StepError) → NotPort a.fault → b.fault ≡ Some (then_fault a.fault g) → AreBlamed (counts a.ports) (counts b.ports) (Some g)
+    pub serves_short : (g : TurnFault StepError) → NotPort a.fault → b.fault ≡ Some (then_fault a.fault g) → AreBlamed (counts a.ports.now) (counts b.ports.now) (Some g)
         → PoolServes around counts loans s b
     serves_short g calmly is blamed = record {
+      ports = ports ∙ h.ports;
+      desk = desk ∙ h.desk;
       held = held ∙ h.held;
       turns = turns ∙ h.turns;
       opens = opens ∙ h.opens;
-      told = told_then s.desk.hosts a.desk.hosts b.desk.hosts h.told told;
+      told = told_then s.desk.now.hosts a.desk.now.hosts b.desk.now.hosts h.told told;
       ps = h.ps;
       puts = puts ∙ h.puts;
-      blames = λ n. subst (λ f. AreBlamed (counts s.ports) (counts b.ports) f) (sym is) (blamed_then (counts s.ports) (counts a.ports) (counts b.ports) a.fault g calmly (h.blames n) blamed);
-      ran = λ n. subst (λ f. RanTo f s.opens s.turns h.ps (around s.ports) (around b.ports)) (sym is)
-          (ran_short a.fault s.opens s.turns h.ps (around s.ports) (around a.ports) (around b.ports) (h.ran n) grows);
+      blames = λ n. subst (λ f. AreBlamed (counts s.ports.now) (counts b.ports.now) f) (sym is) (blamed_then (counts s.ports.now) (counts a.ports.now) (counts b.ports.now) a.fault g calmly (h.blames n) blamed);
+      ran = λ n. subst (λ f. RanTo f s.opens s.turns h.ps (around s.ports.now) (around b.ports.now)) (sym is)
+          (ran_short a.fault s.opens s.turns h.ps (around s.ports.now) (around a.ports.now) (around b.ports.now) (h.ran n) grows);
     }
 
     -- whichever came of it
     pub serves_then : (r : Result ⊤ (TurnFault StepError)) → NotPort a.fault → b.fault ≡ fault_then a.fault r
-        → Blames (counts a.ports).link (counts b.ports).link (counts a.ports).ether (counts b.ports).ether (counts a.ports).up (counts b.ports).up r
+        → Blames (counts a.ports.now).link (counts b.ports.now).link (counts a.ports.now).ether (counts b.ports.now).ether (counts a.ports.now).up (counts b.ports.now).up r
         → PoolServes around counts loans s b
-    serves_then (Ok x) n is blamed = serves_on is (same_counts (counts a.ports) (counts b.ports) blamed)
+    serves_then (Ok x) n is blamed = serves_on is (same_counts (counts a.ports.now) (counts b.ports.now) blamed)
     serves_then (Err g) n is blamed = serves_short g n is blamed
 
   -- where it had stopped nothing is done
   pub serves_none : (s : PoolServing P G) → is_some s.fault ≡ true → PoolServes around counts loans s s
   serves_none s some = record {
+    ports = refl;
+    desk = refl;
     held = refl;
     turns = refl;
     opens = refl;
@@ -178,24 +186,26 @@ module _ {P G : Type 0} (around : P → Around) (counts : P → PortCounts) (loa
     ran = λ none. absurd (true_false (sym some ∙ ap is_some none));
   }
 
-  module _ (s b : PoolServing P G) (p q : PoolPass) (held : loans b.ports ≡ loans s.ports) (turns : b.turns ≡ s.turns) (opens : b.opens ≡ s.opens)
-      (step : InStep s.desk b.desk p q) (r : Result ⊤ (TurnFault StepError)) (is : told_by b.fault ≡ r)
-      (blamed : Blames (counts s.ports).link (counts b.ports).link (counts s.ports).ether (counts b.ports).ether (counts s.ports).up (counts b.ports).up r)
-      (ok : OnOk r (HasServed s.opens s.turns p q (around s.ports) (around b.ports))) (err : OnErr r (HasBroken s.opens s.turns p q (around s.ports) (around b.ports))) where
-    pub has_ran : HasRanTo b.fault s.opens s.turns p q (around s.ports) (around b.ports)
-    has_ran = ran_by b.fault s.opens s.turns p q (around s.ports) (around b.ports)
-        (subst (λ k. OnOk k (HasServed s.opens s.turns p q (around s.ports) (around b.ports))) (sym is) ok)
-        (subst (λ k. OnErr k (HasBroken s.opens s.turns p q (around s.ports) (around b.ports))) (sym is) err)
+  module _ (s b : PoolServing P G) (p q : PoolPass) (ports : b.ports.ghost_name ≡ s.ports.ghost_name) (desk : b.desk.ghost_name ≡ s.desk.ghost_name) (held : loans b.ports.now ≡ loans s.ports.now) (turns : b.turns ≡ s.turns) (opens : b.opens ≡ s.opens)
+      (step : InStep s.desk.now b.desk.now p q) (r : Result ⊤ (TurnFault StepError)) (is : told_by b.fault ≡ r)
+      (blamed : Blames (counts s.ports.now).link (counts b.ports.now).link (counts s.ports.now).ether (counts b.ports.now).ether (counts s.ports.now).up (counts b.ports.now).up r)
+      (ok : OnOk r (HasServed s.opens s.turns p q (around s.ports.now) (around b.ports.now))) (err : OnErr r (HasBroken s.opens s.turns p q (around s.ports.now) (around b.ports.now))) where
+    pub has_ran : HasRanTo b.fault s.opens s.turns p q (around s.ports.now) (around b.ports.now)
+    has_ran = ran_by b.fault s.opens s.turns p q (around s.ports.now) (around b.ports.now)
+        (subst (λ k. OnOk k (HasServed s.opens s.turns p q (around s.ports.now) (around b.ports.now))) (sym is) ok)
+        (subst (λ k. OnErr k (HasBroken s.opens s.turns p q (around s.ports.now) (around b.ports.now))) (sym is) err)
 
     pub serves_all : PoolServes around counts loans s b
     serves_all = record {
+      ports = ports;
+      desk = desk;
       held = held;
       turns = turns;
       opens = opens;
       told = step.told;
       ps = has_ran.0;
       puts = let a = puts_count p q has_ran.0 has_ran.2 in let e = step.puts in omega arith;
-      blames = λ none. subst (λ k. Blames (counts s.ports).link (counts b.ports).link (counts s.ports).ether (counts b.ports).ether (counts s.ports).up (counts b.ports).up k) (sym is) blamed;
+      blames = λ none. subst (λ k. Blames (counts s.ports.now).link (counts b.ports.now).link (counts s.ports.now).ether (counts b.ports.now).ether (counts s.ports.now).up (counts b.ports.now).up k) (sym is) blamed;
       ran = λ none. has_ran.1;
     }
 

@@ -33,6 +33,11 @@ abbrev pub told_by : Option (TurnFault StepError) → Result ⊤ (TurnFault Step
 told_by None = Ok tt
 told_by (Some fault) = Err fault
 
+-- something stopped it
+abbrev pub has_stopped : Result ⊤ (TurnFault StepError) → Bool
+has_stopped (Ok x) = false
+has_stopped (Err fault) = true
+
 -- this holds, unless a port failed
 abbrev pub OnCalm : Result ⊤ (TurnFault StepError) → Type 0 → Type 0
 OnCalm (Ok x) fact = fact

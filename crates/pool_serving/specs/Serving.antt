@@ -9,20 +9,22 @@ use Rattle.pool_giving.specs.Hosts.{KeepsTold}
 use Rattle.pool_serving.specs.Handing.{puts_in}
 
 module _ {P G : Type 0} (around : P → Around) (counts : P → PortCounts) (loans : P → Loans) where
-  -- It holds the same ports, and was told the same. Where nothing had stopped it before, it made the turns that it was told to make, or
+  -- It holds the same ports and the same desk, and was told the same. Where nothing had stopped it before, it made the turns that it was told to make, or
   -- fewer where it stopped; what it took from the ports, and what it put, is that of these turns.
   pub record PoolServes (before after : PoolServing P G) : Type 0 where
-    pub held : loans after.ports ≡ loans before.ports
+    pub ports : after.ports.ghost_name ≡ before.ports.ghost_name
+    pub desk : after.desk.ghost_name ≡ before.desk.ghost_name
+    pub held : loans after.ports.now ≡ loans before.ports.now
     pub turns : after.turns ≡ before.turns
     pub opens : after.opens ≡ before.opens
-    pub told : KeepsTold before.desk.hosts after.desk.hosts
+    pub told : KeepsTold before.desk.now.hosts after.desk.now.hosts
     pub ps : List Put
-    pub puts : after.desk.puts ≡ before.desk.puts + length ps
-    pub blames : before.fault ≡ None → AreBlamed (counts before.ports) (counts after.ports) after.fault
-    pub ran : before.fault ≡ None → RanTo after.fault before.opens before.turns ps (around before.ports) (around after.ports)
+    pub puts : after.desk.now.puts ≡ before.desk.now.puts + length ps
+    pub blames : before.fault ≡ None → AreBlamed (counts before.ports.now) (counts after.ports.now) after.fault
+    pub ran : before.fault ≡ None → RanTo after.fault before.opens before.turns ps (around before.ports.now) (around after.ports.now)
 
   -- What it put are the datagrams of these turns, in order, each once and at its moment: all that it took, unless it stopped.
   pub record ServesPutting (before after : PoolServing P G) (old new : PoolPass) : Type 0 where
     pub ps : List Put
-    pub ran : RanTo after.fault before.opens before.turns ps (around before.ports) (around after.ports)
+    pub ran : RanTo after.fault before.opens before.turns ps (around before.ports.now) (around after.ports.now)
     pub puts : puts_in new ≡ puts_in old ++ ps

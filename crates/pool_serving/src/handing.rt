@@ -6,9 +6,10 @@ ghost use Rattle.worker_pool.specs.Pools.{IsCaller};
 ghost use Rattle.port_events.specs.declared.giving.TurnFault.TheVariants as faults;
 ghost use Rattle.port_events.specs.Giving.{Blames};
 ghost use Rattle.pool_turns.specs.Turns.{Draws};
-ghost use Rattle.pool_serving.specs.Faults.{OnCalm};
-ghost use Rattle.pool_giving.specs.Hosts.{KeepsTold, IsTold};
-ghost use Rattle.pool_serving.specs.Handing.{HandsUp, HandsOver, IsStill};
+ghost use Rattle.session_cells.specs.Tokens.{log_of};
+ghost use Rattle.pool_serving.specs.Faults.{has_stopped, OnCalm};
+ghost use Rattle.pool_giving.specs.Hosts.{KeepsTold};
+ghost use Rattle.pool_serving.specs.Handing.{host_of, HandsUp, HandsOver, IsStill};
 
 use crate::counting::one_more;
 use crate::cutting::between;
@@ -33,7 +34,7 @@ fn refused(error: StepError) -> PoolFault
     TurnFault::Stopped { stop: error }
 }
 
-impl<'a, G: Gate> Desk<'a, G> {
+impl<G: Gate> Desk<G> {
     /// Asks the tunnel of a call for its subscriber, and keeps what it tells. Nothing is told where the call has ended.
     fn ask<W: Wait, H: Hub>(
         &mut self,
@@ -69,7 +70,7 @@ impl<'a, G: Gate> Desk<'a, G> {
         ensures still { IsStill pass.old pass.new }
         ensures counts { (self.new.given ≡ self.old.given) × (self.new.puts ≡ self.old.puts) }
         ensures told { KeepsTold self.old.hosts self.new.hosts }
-        ensures is { IfOk result (λ host. IsTold self.new.hosts session host) }
+        ensures is { IfOk result (λ host. host ≡ host_of self.new.hosts (log_of pass.new.pass.seen) session) }
         ensures fault { IfErr result (λ fault. fault ≡ faults.NoMemory) }
     {
         let locked = &pool.shared.locked;
@@ -98,7 +99,7 @@ impl<'a, G: Gate> Desk<'a, G> {
         ensures still { IsStill pass.old pass.new }
         ensures counts { (self.new.given ≡ self.old.given) × (self.new.puts ≡ self.old.puts) }
         ensures told { KeepsTold self.old.hosts self.new.hosts }
-        ensures handed { OnCalm result (HandsUp self.new.hosts session sides.Sub frame.now (P.around ports.old) (P.around ports.new)) }
+        ensures handed { OnCalm result (HandsUp (has_stopped result) self.new.hosts (log_of pass.new.pass.seen) session sides.Sub frame.now (P.around ports.old) (P.around ports.new)) }
         ensures grows { Draws 0 (P.around ports.old) (P.around ports.new) }
         ensures cause { Blames (P.counts ports.old).link (P.counts ports.new).link (P.counts ports.old).ether (P.counts ports.new).ether (P.counts ports.old).up (P.counts ports.new).up result }
         ensures loans { P.loans ports.new ≡ P.loans ports.old }
@@ -124,7 +125,7 @@ impl<'a, G: Gate> Desk<'a, G> {
         ensures of { IsCaller pool.now pass.new }
         ensures still { IsStill pass.old pass.new }
         ensures same { self.new ≡ self.old }
-        ensures handed { OnCalm result (HandsUp self.new.hosts session sides.Lcp packet.now (P.around ports.old) (P.around ports.new)) }
+        ensures handed { OnCalm result (HandsUp (has_stopped result) self.new.hosts (log_of pass.new.pass.seen) session sides.Lcp packet.now (P.around ports.old) (P.around ports.new)) }
         ensures grows { Draws 0 (P.around ports.old) (P.around ports.new) }
         ensures cause { Blames (P.counts ports.old).link (P.counts ports.new).link (P.counts ports.old).ether (P.counts ports.new).ether (P.counts ports.old).up (P.counts ports.new).up result }
         ensures loans { P.loans ports.new ≡ P.loans ports.old }
@@ -164,7 +165,7 @@ impl<'a, G: Gate> Desk<'a, G> {
         ensures still { IsStill pass.old pass.new }
         ensures counts { (self.new.given ≡ self.old.given) × (self.new.puts ≡ self.old.puts) }
         ensures told { KeepsTold self.old.hosts self.new.hosts }
-        ensures handed { OnCalm result (HandsUp self.new.hosts session side frame.now (P.around ports.old) (P.around ports.new)) }
+        ensures handed { OnCalm result (HandsUp (has_stopped result) self.new.hosts (log_of pass.new.pass.seen) session side frame.now (P.around ports.old) (P.around ports.new)) }
         ensures grows { Draws 0 (P.around ports.old) (P.around ports.new) }
         ensures cause { Blames (P.counts ports.old).link (P.counts ports.new).link (P.counts ports.old).ether (P.counts ports.new).ether (P.counts ports.old).up (P.counts ports.new).up result }
         ensures loans { P.loans ports.new ≡ P.loans ports.old }
@@ -191,7 +192,7 @@ impl<'a, G: Gate> Desk<'a, G> {
         ensures still { IsStill pass.old pass.new }
         ensures counts { (self.new.given ≡ self.old.given) × (self.new.puts ≡ self.old.puts) }
         ensures told { KeepsTold self.old.hosts self.new.hosts }
-        ensures handed { OnCalm result (HandsOver self.new.hosts finished.now (P.around ports.old) (P.around ports.new)) }
+        ensures handed { OnCalm result (HandsOver (has_stopped result) self.new.hosts pass.new finished.now (P.around ports.old) (P.around ports.new)) }
         ensures grows { Draws 0 (P.around ports.old) (P.around ports.new) }
         ensures cause { Blames (P.counts ports.old).link (P.counts ports.new).link (P.counts ports.old).ether (P.counts ports.new).ether (P.counts ports.old).up (P.counts ports.new).up result }
         ensures loans { P.loans ports.new ≡ P.loans ports.old }
@@ -240,7 +241,7 @@ impl<'a, G: Gate> Desk<'a, G> {
         ensures given { self.new.given ≡ self.old.given + 1 }
         ensures puts { self.new.puts ≡ self.old.puts }
         ensures told { KeepsTold self.old.hosts self.new.hosts }
-        ensures handed { OnCalm result (HandsOver self.new.hosts finished.now (P.around ports.old) (P.around ports.new)) }
+        ensures handed { OnCalm result (HandsOver (has_stopped result) self.new.hosts pass.new finished.now (P.around ports.old) (P.around ports.new)) }
         ensures grows { Draws 0 (P.around ports.old) (P.around ports.new) }
         ensures cause { Blames (P.counts ports.old).link (P.counts ports.new).link (P.counts ports.old).ether (P.counts ports.new).ether (P.counts ports.old).up (P.counts ports.new).up result }
         ensures loans { P.loans ports.new ≡ P.loans ports.old }

@@ -25,7 +25,7 @@ use step_hub::Hub;
 use wire_base::{Bytes, NoMemory};
 use worker_pool::{Pool, PoolPass};
 
-impl<'a, G: Gate> Desk<'a, G> {
+impl<G: Gate> Desk<G> {
     /// A turn of the tunnel that an event is for, with a block that was drawn for it.
     pub(crate) fn run_with<W: Wait, H: Hub, P: Ports>(
         &mut self,

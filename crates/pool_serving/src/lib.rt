@@ -11,5 +11,5 @@ mod putting;
 mod serving;
 mod turning;
 
-pub use desk::{Desk, PoolFault};
+pub use desk::{Desk, LentGate, PoolFault};
 pub use serving::PoolServing;

@@ -22,7 +22,7 @@ use worker_pool::{Pool, PoolPass, collect, put, work_one};
 /// How many finished items are collected at a time: as many as may wait.
 const PLACES: u32 = 1_024;
 
-impl<'a, G: Gate> Desk<'a, G> {
+impl<G: Gate> Desk<G> {
     /// Works an item, where one waits, and gives it to the ports.
     fn work<W: Wait, H: Hub, P: Ports>(
         &mut self,
@@ -39,7 +39,7 @@ impl<'a, G: Gate> Desk<'a, G> {
         ensures cause { Blames (P.counts ports.old).link (P.counts ports.new).link (P.counts ports.old).ether (P.counts ports.new).ether (P.counts ports.old).up (P.counts ports.new).up result }
         ensures loans { P.loans ports.new ≡ P.loans ports.old }
     {
-        match work_one(rt, pool, pass, self.gate) {
+        match work_one(rt, pool, pass, &self.gate) {
             Worked::Empty => {
                 thread::yield_now();
                 Ok(())

@@ -22,7 +22,7 @@ use step_hub::Hub;
 use wire_base::Sequence;
 use worker_pool::{Pool, PoolPass};
 
-impl<'a, G: Gate> Desk<'a, G> {
+impl<G: Gate> Desk<G> {
     /// An event is a turn of the tunnel that it is for, with the next block, and what that gives goes to the ports.
     pub(crate) fn run<W: Wait, H: Hub, P: Ports>(
         &mut self,

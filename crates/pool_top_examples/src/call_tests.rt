@@ -138,7 +138,7 @@ fn what_is_no_message_is_dropped(rt: HostRuntime) -> Result<(), Fail> {
         assert!(rt; false, "it didn't run");
         return Ok(());
     };
-    assert!(rt; sink.taken() == b"taken 2\nup 0\ndropped 2\n");
+    assert!(rt; sink.taken() == b"taken 2\nup 0\ndropped 2\n".as_slice());
     Ok(())
 }
 
@@ -312,7 +312,7 @@ fn words_without_a_plan_touch_nothing(rt: HostRuntime) -> Result<(), Fail> {
         return Ok(());
     };
     assert!(rt; refused.exit == NodeExit::Usage);
-    assert!(rt; refused.around.sink.taken() == b"usage: l2tp pool\n");
+    assert!(rt; refused.around.sink.taken() == b"usage: l2tp pool\n".as_slice());
     assert!(rt; refused.disk.bytes().is_empty());
     let version = "pool --role lac --version";
     let Some(told) = ran(&rt, alloc, version, b"", LNS_ADDRESS, &[PACKET], &[], &Open) else {
