@@ -20,6 +20,8 @@ use port_traits::{StdSink, StdSource};
 use std::env;
 use std::io::ErrorKind;
 use std::process::ExitCode;
+use std::sync::Wait;
+use std::thread::Threads;
 
 /// The words after the program's name. One that isn't UTF-8 makes a command line that is no command, as no words do.
 fn command_words(rt: &HostRuntime) -> Result<Vec<String>, Exit> {
@@ -35,7 +37,7 @@ fn command_words(rt: &HostRuntime) -> Result<Vec<String>, Exit> {
 }
 
 /// Does what the words ask for, and gives the status of the process. The first word tells which call is made.
-fn run(rt: &HostRuntime, words: &[String]) -> u8 {
+fn run<T: Threads + Wait + Sync>(rt: &HostRuntime, threads: &T, words: &[String]) -> u8 {
     let mut sink = StdSink::new(rt.stdout());
     let first = match words.first() {
         Some(word) => word.as_str(),
@@ -44,9 +46,9 @@ fn run(rt: &HostRuntime, words: &[String]) -> u8 {
     if first == "make" {
         make_top(rt.alloc(), words, &mut sink).status()
     } else if first == "node" {
-        run_command(rt, Command::Node, words)
+        run_command(rt, threads, Command::Node, words)
     } else if first == "pool" {
-        run_command(rt, Command::Pool, words)
+        run_command(rt, threads, Command::Pool, words)
     } else {
         let mut source = StdSource::new(rt.stdin());
         replay_top(rt.alloc(), words, &mut source, &mut sink).status()
@@ -55,7 +57,7 @@ fn run(rt: &HostRuntime, words: &[String]) -> u8 {
 
 fn main(rt: HostRuntime) -> ExitCode {
     let status = match command_words(&rt) {
-        Ok(words) => run(&rt, words.as_slice()),
+        Ok(words) => run(&rt, &rt, words.as_slice()),
         Err(exit) => exit.status(),
     };
     ExitCode::from(status)

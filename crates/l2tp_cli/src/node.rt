@@ -13,6 +13,8 @@ use session_workers::Gate;
 use std::alloc::Global;
 use std::io;
 use std::net::Net;
+use std::sync::Wait;
+use std::thread::Threads;
 use stream_ports::{UnixEther, UnixUplink};
 use wire_base::NoMemory;
 
@@ -117,8 +119,9 @@ struct Places {
 
 /// Runs the words over the objects at these places. Each is opened at its first call, so that words without a plan touch none. The first
 /// fault of one of them ends the run, so at most one has an error of the system to tell.
-fn run_over(
+fn run_over<T: Threads + Wait + Sync>(
     rt: &HostRuntime,
+    threads: &T,
     command: Command,
     words: &[String],
     places: Places,
@@ -154,7 +157,7 @@ fn run_over(
         ),
         Command::Pool => {
             let pooled = pool_top(
-                rt,
+                threads,
                 alloc,
                 words,
                 VERSION,
@@ -196,7 +199,13 @@ fn tell_seed_fault(rt: &HostRuntime, error: io::Error) -> u8 {
 }
 
 /// Runs the plan of the words, with a generator that is seeded by 32 bytes of the plan's file.
-fn run_plan(rt: &HostRuntime, command: Command, words: &[String], plan: Plan) -> u8 {
+fn run_plan<T: Threads + Wait + Sync>(
+    rt: &HostRuntime,
+    threads: &T,
+    command: Command,
+    words: &[String],
+    plan: Plan,
+) -> u8 {
     let seed = match &plan.seed {
         Some(path) => path.as_str(),
         None => "/dev/urandom",
@@ -211,13 +220,18 @@ fn run_plan(rt: &HostRuntime, command: Command, words: &[String], plan: Plan) ->
                 ether: plan.ether,
                 uplink: plan.uplink,
             };
-            run_over(rt, command, words, places, generator)
+            run_over(rt, threads, command, words, places, generator)
         }
     }
 }
 
 /// Answers words that are no plan, over objects that aren't used.
-fn answer(rt: &HostRuntime, command: Command, words: &[String]) -> u8 {
+fn answer<T: Threads + Wait + Sync>(
+    rt: &HostRuntime,
+    threads: &T,
+    command: Command,
+    words: &[String],
+) -> u8 {
     let places = Places {
         listen: 0,
         port: 0,
@@ -225,13 +239,18 @@ fn answer(rt: &HostRuntime, command: Command, words: &[String]) -> u8 {
         ether: None,
         uplink: None,
     };
-    run_over(rt, command, words, places, seeded([0u8; 32]))
+    run_over(rt, threads, command, words, places, seeded([0u8; 32]))
 }
 
-/// Runs the node, or the pool, that the words ask for, and gives the status of the process.
-pub(crate) fn run_command(rt: &HostRuntime, command: Command, words: &[String]) -> u8 {
+/// Runs the node, or the pool, that the words ask for, and gives the status of the process. The workers of a pool are made by `threads`.
+pub(crate) fn run_command<T: Threads + Wait + Sync>(
+    rt: &HostRuntime,
+    threads: &T,
+    command: Command,
+    words: &[String],
+) -> u8 {
     match read_plan(rt.alloc(), words) {
-        Ok(plan) => run_plan(rt, command, words, plan),
-        Err(_) => answer(rt, command, words),
+        Ok(plan) => run_plan(rt, threads, command, words, plan),
+        Err(_) => answer(rt, threads, command, words),
     }
 }
