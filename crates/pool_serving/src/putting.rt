@@ -22,6 +22,9 @@ use worker_pool::{Pool, PoolPass, collect, put, work_one};
 /// How many finished items are collected at a time: as many as may wait.
 const PLACES: u32 = 1_024;
 
+/// How often the calling thread looks for what workers are about to finish. That takes about as long as to wake one.
+const LOOKS: u32 = 512;
+
 impl<G: Gate> Desk<G> {
     /// Works an item, where one waits, and gives it to the ports.
     fn work<W: Wait, H: Hub, P: Ports>(
@@ -165,7 +168,7 @@ impl<G: Gate> Desk<G> {
     }
 
     /// Collects what is finished, and gives it to the ports.
-    pub(crate) fn collect_all<W: Wait, H: Hub, P: Ports>(
+    fn collect_all<W: Wait, H: Hub, P: Ports>(
         &mut self,
         rt: &W,
         pool: &Pool<H>,
@@ -186,5 +189,57 @@ impl<G: Gate> Desk<G> {
             }
         }
         Ok(())
+    }
+
+    /// Collects until all that was put came back, or it has looked so often: what workers are about to finish isn't to wait until the
+    /// calling thread has rested.
+    fn collect_rest<W: Wait, H: Hub, P: Ports>(
+        &mut self,
+        rt: &W,
+        pool: &Pool<H>,
+        pass: &mut PoolPass,
+        ports: &mut P,
+    ) -> Result<(), PoolFault>
+        requires { IsCaller pool.now pass.old }
+        ensures of { IsCaller pool.now pass.new }
+        ensures step { InStep self.old self.new pass.old pass.new }
+        ensures known { known_of pass.new.pass ≡ known_of pass.old.pass }
+        ensures grows { Draws 0 (P.around ports.old) (P.around ports.new) }
+        ensures cause { Blames (P.counts ports.old).link (P.counts ports.new).link (P.counts ports.old).ether (P.counts ports.new).ether (P.counts ports.old).up (P.counts ports.new).up result }
+        ensures loans { P.loans ports.new ≡ P.loans ports.old }
+    {
+        for _ in 0..LOOKS {
+            if self.given >= self.puts {
+                return Ok(());
+            }
+            if !self.collect_one(rt, pool, pass, ports)? {
+                thread::yield_now();
+            }
+        }
+        Ok(())
+    }
+
+    /// Collects what is finished, and, where nothing came for the workers, what they are about to finish.
+    pub(crate) fn collect_due<W: Wait, H: Hub, P: Ports>(
+        &mut self,
+        rt: &W,
+        pool: &Pool<H>,
+        pass: &mut PoolPass,
+        ports: &mut P,
+        idle: bool,
+    ) -> Result<(), PoolFault>
+        requires { IsCaller pool.now pass.old }
+        ensures of { IsCaller pool.now pass.new }
+        ensures step { InStep self.old self.new pass.old pass.new }
+        ensures known { known_of pass.new.pass ≡ known_of pass.old.pass }
+        ensures grows { Draws 0 (P.around ports.old) (P.around ports.new) }
+        ensures cause { Blames (P.counts ports.old).link (P.counts ports.new).link (P.counts ports.old).ether (P.counts ports.new).ether (P.counts ports.old).up (P.counts ports.new).up result }
+        ensures loans { P.loans ports.new ≡ P.loans ports.old }
+    {
+        if idle {
+            self.collect_rest(rt, pool, pass, ports)
+        } else {
+            self.collect_all(rt, pool, pass, ports)
+        }
     }
 }

@@ -280,7 +280,7 @@ impl<G: Gate> Desk<G> {
         self.run_some(rt, pool, pass, ports, now, got)
     }
 
-    /// Collects what is finished, and lets time pass.
+    /// Collects what is finished, and lets time pass. It is idle where no datagram was put in this turn.
     fn pass_time<W: Wait, H: Hub, P: Ports>(
         &mut self,
         rt: &W,
@@ -288,6 +288,7 @@ impl<G: Gate> Desk<G> {
         pass: &mut PoolPass,
         ports: &mut P,
         now: u64,
+        idle: bool,
     ) -> Result<(), PoolFault>
         requires { IsCaller pool.now pass.old }
         ensures of { IsCaller pool.now pass.new }
@@ -298,7 +299,7 @@ impl<G: Gate> Desk<G> {
         ensures cause { Blames (P.counts ports.old).link (P.counts ports.new).link (P.counts ports.old).ether (P.counts ports.new).ether (P.counts ports.old).up (P.counts ports.new).up result }
         ensures loans { P.loans ports.new ≡ P.loans ports.old }
     {
-        self.collect_all(rt, pool, pass, ports)?;
+        self.collect_due(rt, pool, pass, ports, idle)?;
         self.tick(rt, pool, pass, ports, now)
     }
 
@@ -320,10 +321,12 @@ impl<G: Gate> Desk<G> {
         ensures loans { P.loans ports.new ≡ P.loans ports.old }
     {
         let now = ports.moment();
+        let before = self.puts;
         self.from_link(rt, pool, pass, ports, now)?;
         self.from_ether(rt, pool, pass, ports, now)?;
         self.from_uplink(rt, pool, pass, ports, now)?;
-        self.pass_time(rt, pool, pass, ports, now)
+        let idle = self.puts == before;
+        self.pass_time(rt, pool, pass, ports, now, idle)
     }
 
     /// Opens a tunnel, where one is to be, at a moment of its own.
