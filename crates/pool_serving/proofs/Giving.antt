@@ -1,6 +1,7 @@
 -- What goes out of one answer.
 use Rattle.std.proofs.Common.{◌≡◌, ℕ, inl, inr, Bool, true, false, List, [], ◌∷◌, Result, Ok, Err, OnOk, OnErr, refl, subst}
 use Rattle.std.specs.Prelude.{⊤, Option}
+use Rattle.std.specs.Result.{IsErr}
 use Rattle.wire_base.specs.declared.letter.Side.TheVariants.{Sub, Net, Lcp}
 use Rattle.data_plane.specs.declared.carry.Carry.TheVariants.{Up, Dropped}
 use Rattle.session_cells.specs.declared.entry.Entry.{Entry}
@@ -38,9 +39,13 @@ grows_by (Err e) outs a b h k = gives_draws [] a b k
 pub nothing_heard : (stopped : Bool) (h : Hosted) (log : List Entry) (session : ℕ) (packet : List ℕ) (a : Around) → HandsUp stopped h log session Lcp packet a a
 nothing_heard stopped h log session packet a = ([], gives_none a)
 
+false_true : false ≡ true → ⊥
+false_true e = cc
+
 -- nothing went out, of a pool that stops
-pub gives_nothing : (fault : TurnFault StepError) (outs : List Going) (a : Around) → OnCalm (Err fault) (GivesOr (has_stopped (Err fault)) outs a a)
-gives_nothing fault outs a = calm_any (Err fault) (inr (gives_none a))
+pub gives_nothing : (r : Result ⊤ (TurnFault StepError)) (outs : List Going) (a : Around) → IsErr r → OnCalm r (GivesOr (has_stopped r) outs a a)
+gives_nothing (Ok x) outs a is = absurd (false_true is)
+gives_nothing (Err e) outs a is = calm_any (Err e) (inr (gives_none a))
 
 -- this went out, or nothing, and then the pool stops
 pub gives_or : (r : Result ⊤ (TurnFault StepError)) (outs : List Going) (a b : Around) → OnOk r (Gives outs a b) → OnErr r (Gives [] a b)

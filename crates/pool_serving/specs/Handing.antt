@@ -9,6 +9,7 @@ use Rattle.session_cells.specs.declared.entry.Entry.{Entry}
 use Rattle.session_cells.specs.Logs.{look_after}
 use Rattle.session_cells.specs.Tokens.{log_of}
 use Rattle.end_model.specs.declared.out.Out.{Out}
+use Rattle.port_events.specs.declared.end.Out.{Out as Going}
 use Rattle.port_events.specs.declared.end.Out.TheVariants as going
 use Rattle.data_plane.specs.declared.carry.Carry.TheVariants.{Up, Dropped}
 use Rattle.session_workers.specs.declared.item.Numbered.{Numbered}

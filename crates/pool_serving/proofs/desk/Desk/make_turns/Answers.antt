@@ -19,3 +19,6 @@ pub returns-in_err-turn-clause-err : goal.returns-in_err-turn-clause-err
 returns-in_err-turn-clause-err g c = let a = g.P.Ports.around in
     let h = c.in_err-turn.ensures.err in
     err_always c.from_residual.result (broke c.loop.counter c.args.turns h.0 c.args.pass.now c.loop.pass c.turn.new.pass (a c.args.ports.now) (a c.loop.ports) (a c.turn.new.ports) (omega arith) c.loop.invariant.runs h.1 h.2)
+
+pub returns-in_err-turn-clause-step : goal.returns-in_err-turn-clause-step
+returns-in_err-turn-clause-step g c = step_then _ _ _ _ _ _ c.loop.invariant.step c.turn.ensures.step

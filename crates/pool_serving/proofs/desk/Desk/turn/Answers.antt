@@ -57,3 +57,6 @@ returns-clause-err g c = let a = g.P.Ports.around in
 
 pub returns-clause-step : goal.returns-clause-step
 returns-clause-step g c = step_then _ _ _ _ _ _ (step_then _ _ _ _ _ _ (step_then _ _ _ _ _ _ c.from_link.ensures.step c.from_ether.ensures.step) c.from_uplink.ensures.step) c.pass_time.ensures.step
+
+pub returns-in_err-from_ether-clause-step : goal.returns-in_err-from_ether-clause-step
+returns-in_err-from_ether-clause-step g c = step_then _ _ _ _ _ _ c.from_link.ensures.step c.from_ether.ensures.step

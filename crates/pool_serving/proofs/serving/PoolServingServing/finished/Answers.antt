@@ -24,7 +24,7 @@ returns-clause-handed g c =
     let old = a c.args.self.now.ports.now in
     let new = a t.new.ports in
     let f = c.args.finished in
-    let h : Bool → Type 0 = λ stopped. HandsOver stopped t.new.desk.hosts t.new.pass f old new in
-    let more : h false → h true = hands_more t.new.desk.hosts (log_of t.new.pass.pass.seen) f.item.bytes f.done old new in
+    let h : Bool → Type 0 = λ stopped. HandsOver stopped t.new.self.hosts t.new.pass f old new in
+    let more : h false → h true = hands_more t.new.self.hosts (log_of t.new.pass.pass.seen) f.item.bytes f.done old new in
     subst (λ fault. OnCalm (told_by fault) (h (has_stopped (told_by fault)))) (sym c.fault_then-self.ensures)
     (calm_then h more c.args.self.now.fault t.result n t.ensures.handed)
