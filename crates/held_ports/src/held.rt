@@ -7,18 +7,19 @@ use port_traits::{Clock, Ether, Link, Uplink};
 use rand_core::Rng;
 use std::alloc::Global;
 
-/// The ports of a node, its clock and its generator, which are lent.
+/// The ports of a node, its clock and its generator, which are lent, each for a time of its own.
 #[derive(Drop)]
-pub struct HeldPorts<'a, L: Link, E: Ether, U: Uplink, C: Clock, R: Rng> {
+pub struct HeldPorts<'l, 'e, 'u, 'c, 'r, L: Link, E: Ether, U: Uplink, C: Clock, R: Rng> {
     pub alloc: Global,
-    pub link: &'a mut L,
-    pub ether: &'a mut E,
-    pub up: &'a mut U,
-    pub clock: &'a mut C,
-    pub rng: &'a mut R,
+    pub link: &'l mut L,
+    pub ether: &'e mut E,
+    pub up: &'u mut U,
+    pub clock: &'c mut C,
+    pub rng: &'r mut R,
 }
 
-impl<'a, L: Link, E: Ether, U: Uplink, C: Clock, R: Rng> Ports for HeldPorts<'a, L, E, U, C, R> {
+impl<'l, 'e, 'u, 'c, 'r, L: Link, E: Ether, U: Uplink, C: Clock, R: Rng> Ports
+    for HeldPorts<'l, 'e, 'u, 'c, 'r, L, E, U, C, R> {
     ghost use Rattle.port_events.specs.Feeding.{given};
     ghost use Rattle.port_turn.specs.Turns.{waits, asked};
     ghost use Rattle.held_ports.specs.Around.{around, port_counts, loans};
