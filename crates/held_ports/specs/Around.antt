@@ -28,17 +28,6 @@ pub record PortCounts : Type 0 where
 abbrev pub port_counts : ℕ → ℕ → ℕ → PortCounts
 port_counts link ether up = record { link = link; ether = ether; up = up }
 
--- which references are held, by the names that they have in proofs
-pub record Loans : Type 0 where
-  pub link : ℕ
-  pub ether : ℕ
-  pub up : ℕ
-  pub clock : ℕ
-  pub rng : ℕ
-
-abbrev pub loans : ℕ → ℕ → ℕ → ℕ → ℕ → Loans
-loans link ether up clock rng = record { link = link; ether = ether; up = up; clock = clock; rng = rng }
-
 -- ---- what one call does
 
 -- the clock was read, and told this moment

@@ -1,9 +1,8 @@
-//! All ports of a node, its clock and its generator, as one value that holds them by reference. Whoever lent them has them back
-//! afterwards, as the last call left them.
+//! All ports of a node, its clock and its generator, as one value, so that a call is lent one thing and tells what became of it.
 #![tactic(auto)]
 
 mod held;
 mod ports;
 
-pub use held::HeldPorts;
+pub use held::NodePorts;
 pub use ports::Ports;

@@ -3,6 +3,7 @@
 use crate::texts::VERSION;
 use block_source::{generator_of_file, seeded};
 use file_disk::FileDisk;
+use held_ports::NodePorts;
 use node_top::{NodeExit, node_top};
 use node_words::{Plan, read_plan};
 use pool_top::pool_top;
@@ -129,16 +130,21 @@ fn run_over<T: Threads + Wait + Sync>(
 ) -> u8 {
     let alloc = rt.alloc();
     let watch = Watch::new();
-    let Ok(mut ether) = ether_at(alloc, rt, &watch, places.ether) else {
+    let Ok(ether) = ether_at(alloc, rt, &watch, places.ether) else {
         return NodeExit::NoMemory.status();
     };
-    let Ok(mut uplink) = uplink_at(alloc, rt, &watch, places.uplink) else {
+    let Ok(up) = uplink_at(alloc, rt, &watch, places.uplink) else {
         return NodeExit::NoMemory.status();
     };
-    let mut link = watch.link(UdpLink::new(rt, places.listen, places.port));
+    let mut ports = NodePorts {
+        alloc,
+        link: watch.link(UdpLink::new(rt, places.listen, places.port)),
+        ether,
+        up,
+        clock: RestingClock::new(StdClock::new(rt), &watch, rest_of(command)),
+        rng: generator,
+    };
     let mut disk = FileDisk::new(rt, places.store);
-    let mut clock = RestingClock::new(StdClock::new(rt), &watch, rest_of(command));
-    let mut generator = generator;
     let mut sink = StdSink::new(rt.stdout());
     let mut log = StdSink::new(rt.stderr());
     let exit = match command {
@@ -146,37 +152,27 @@ fn run_over<T: Threads + Wait + Sync>(
             alloc,
             words,
             VERSION,
-            &mut link,
-            &mut ether,
-            &mut uplink,
+            &mut ports.link,
+            &mut ports.ether,
+            &mut ports.up,
             &mut disk,
-            &mut clock,
-            &mut generator,
+            &mut ports.clock,
+            &mut ports.rng,
             &mut sink,
             &mut log,
         ),
         Command::Pool => {
             let pooled = pool_top(
-                threads,
-                alloc,
-                words,
-                VERSION,
-                &mut link,
-                &mut ether,
-                &mut uplink,
-                disk,
-                &mut clock,
-                &mut generator,
-                &mut sink,
-                &mut log,
-                &NoGate,
+                threads, alloc, words, VERSION, &mut ports, disk, &mut sink, &mut log, &NoGate,
             );
             disk = pooled.disk;
             pooled.exit
         }
     };
-    let error = disk.last_error().or(link.port().last_error());
-    let error = error.or(ether_error(&ether)).or(uplink_error(&uplink));
+    let error = disk.last_error().or(ports.link.port().last_error());
+    let error = error
+        .or(ether_error(&ports.ether))
+        .or(uplink_error(&ports.up));
     if let Some(error) = error {
         tell_error(alloc, &mut log, error);
     }

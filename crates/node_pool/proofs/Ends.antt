@@ -23,7 +23,7 @@ use Rattle.worker_pool.specs.declared.tally.Tally.{Tally}
 use Rattle.worker_pool.specs.Tallies.{tally_of, IsTallyOf}
 use Rattle.worker_pool.specs.Pools.{IsAlone, AllDone}
 use Rattle.worker_pool.proofs.Times.{same_length}
-use Rattle.held_ports.specs.Around.{Around, PortCounts, Loans}
+use Rattle.held_ports.specs.Around.{Around, PortCounts}
 use Rattle.pool_turns.specs.Turns.{Put, MayBegin, RanTo, BreaksOff}
 use Rattle.pool_turns.proofs.Drawing.{goes_none, draws_none}
 use Rattle.pool_turns.proofs.Following.{is_one_of}
@@ -78,8 +78,8 @@ as_many p fs numbers done =
     let are : length (taken_of p.pass) ≡ length (finished_numbers fs) = ap (λ (ns : List ℕ). length ns) numbers in
     omega (arith, all, puts, same, are)
 
-module _ {P G : Type 0} (around : P → Around) (counts : P → PortCounts) (loans : P → Loans) where
-  pub ran_pool : (before after : PoolServing P G) (p : PoolPass) (t : Tally) (k : ℕ) → PoolServes around counts loans before after → before.fault ≡ None → before.desk.now.puts ≡ 0
+module _ {P G : Type 0} (around : P → Around) (counts : P → PortCounts) where
+  pub ran_pool : (before after : PoolServing P G) (p : PoolPass) (t : Tally) (k : ℕ) → PoolServes around counts before after → before.fault ≡ None → before.desk.now.puts ≡ 0
       → k ≡ 0 → after.desk.now.puts + k ≡ before.desk.now.puts + length (known_of p.pass) → IsTallyOf (taken_of p.pass) t → AllDone p
       → RanPool after.fault before.opens before.turns t (around before.ports.now) (around after.ports.now)
   ran_pool before after p t k serves none first nothing puts tally done =
@@ -95,7 +95,7 @@ module _ {P G : Type 0} (around : P → Around) (counts : P → PortCounts) (loa
 
   -- of queues that were just opened
   pub ran_opened : (before after : PoolServing P G) (q p : PoolPass) (pass : Pass) (t : Tally) → q.pass ≡ pass → known_of pass ≡ []
-      → ((items_of pass).parts ≡ all_parts) × ((finished_of pass).parts ≡ all_parts) → PoolServes around counts loans before after → before.fault ≡ None → before.desk.now.puts ≡ 0
+      → ((items_of pass).parts ≡ all_parts) × ((finished_of pass).parts ≡ all_parts) → PoolServes around counts before after → before.fault ≡ None → before.desk.now.puts ≡ 0
       → after.desk.now.puts + length (known_of q.pass) ≡ before.desk.now.puts + length (known_of p.pass) → IsTallyOf (taken_of p.pass) t → (IsAlone q → AllDone p)
       → RanPool after.fault before.opens before.turns t (around before.ports.now) (around after.ports.now)
   ran_opened before after q p pass t same nothing all serves none first puts tally done =

@@ -3,15 +3,12 @@
 ghost use Rattle.std.specs.Prelude.{◌≡◌, ℕ, Bool, [], false, Some, None};
 ghost use Rattle.checkpoint_journal.specs.State.{HasRoom};
 ghost use Rattle.end_store.specs.Stored.{IsKept};
-ghost use Rattle.port_events.specs.Feeding.{given};
-ghost use Rattle.port_turn.specs.Turns.{waits, asked};
-ghost use Rattle.held_ports.specs.Around.{Around, PortCounts, around};
+ghost use Rattle.held_ports.specs.Around.{Around, PortCounts};
 ghost use Rattle.session_workers.specs.Items.{all_parts};
 ghost use Rattle.session_workers.specs.Passes.{items_of, finished_of, known_of, took_of, made_of, got_of, IsPassIn, IsOpener};
 ghost use Rattle.worker_pool.specs.Tallies.{tally_of};
 ghost use Rattle.pool_serving.specs.Faults.{AreBlamed};
 ghost use Rattle.node_run.specs.declared.faults.NodeFault.TheVariants as node;
-ghost use Rattle.node_run.specs.Faults.{faults};
 ghost use Rattle.node_run.specs.Steps.{store_of, IsReady};
 ghost use Rattle.node_pool.specs.Exits.{PoolBlames, with_disk};
 ghost use Rattle.node_pool.specs.Pools.{RanPool};
@@ -20,16 +17,14 @@ use crate::ending::pool_fault;
 use crate::kept::kept_tunnels;
 use disk_core::Disk;
 use end_model::Role;
-use held_ports::{HeldPorts, Ports};
+use held_ports::Ports;
 use lac_core::LacAccess;
 use locked_tunnels::KeptTunnel;
 use node_run::{NodeEnd, NodeFault};
 use pool_giving::Hosts;
 use pool_serving::{Desk, LentGate, PoolFault, PoolServing};
 use port_events::TurnFault;
-use port_traits::{Clock, Ether, Link, Uplink};
 use pppoe_session::Table;
-use rand_core::Rng;
 use session_workers::{Gate, Pass, Shared, open_shared};
 use shared_parts::{Begun, DiskHub, LacShared, LnsHub, lac_parts, lns_parts};
 use std::alloc::Global;
@@ -72,7 +67,6 @@ fn run_opened<'a, W: Threads + Wait + Sync, P: Ports, H: Hub + Send, F: Gate, G:
     ensures fault { result.fault ≡ serving.new.fault }
     ensures ran { RanPool serving.new.fault serving.old.opens serving.old.turns result.tally (P.around serving.old.ports.now) (P.around serving.new.ports.now) }
     ensures blamed { AreBlamed (P.counts serving.old.ports.now) (P.counts serving.new.ports.now) serving.new.fault }
-    ensures loans { P.loans serving.new.ports.now ≡ P.loans serving.old.ports.now }
     ensures lent { (serving.new.ports.ghost_name ≡ serving.old.ports.ghost_name) × (serving.new.desk.ghost_name ≡ serving.old.desk.ghost_name) }
 {
     let opened = open_pool(shared, pass);
@@ -103,7 +97,6 @@ fn run_desk<W: Threads + Wait + Sync, P: Ports, H: Hub + Send, F: Gate, G: Gate 
     requires first { desk.old.puts ≡ 0 }
     ensures ran { RanPool result.fault opens turns result.tally (P.around ports.old) (P.around ports.new) }
     ensures blamed { AreBlamed (P.counts ports.old) (P.counts ports.new) result.fault }
-    ensures loans { P.loans ports.new ≡ P.loans ports.old }
 {
     let mut serving = PoolServing {
         ports,
@@ -132,7 +125,6 @@ fn run_hub<W: Threads + Wait + Sync, P: Ports, H: Hub + Send, G: Gate + Sync>(
 ) -> HubRan<H>
     ensures ran { RanPool result.fault opens turns result.tally (P.around ports.old) (P.around ports.new) }
     ensures blamed { AreBlamed (P.counts ports.old) (P.counts ports.new) result.fault }
-    ensures loans { P.loans ports.new ≡ P.loans ports.old }
 {
     match open_shared(alloc, role, lns, kept, hub) {
         Ok((shared, pass)) => {
@@ -225,7 +217,6 @@ fn lac_pool<
     requires stored { IsKept lac.store (D.holds disk) }
     ensures ran { RanPool result.fault opens turns result.tally (P.around ports.old) (P.around ports.new) }
     ensures cause { PoolBlames (with_disk (D.faults disk) (P.counts ports.old)) (with_disk (D.faults result.disk) (P.counts ports.new)) (D.holds result.disk) result.fault }
-    ensures loans { P.loans ports.new ≡ P.loans ports.old }
 {
     let Ok((cores, shared)) = lac_parts(alloc, lac) else {
         return no_memory(disk);
@@ -278,7 +269,6 @@ fn lns_pool<
     requires stored { IsKept lns.store (D.holds disk) }
     ensures ran { RanPool result.fault opens turns result.tally (P.around ports.old) (P.around ports.new) }
     ensures cause { PoolBlames (with_disk (D.faults disk) (P.counts ports.old)) (with_disk (D.faults result.disk) (P.counts ports.new)) (D.holds result.disk) result.fault }
-    ensures loans { P.loans ports.new ≡ P.loans ports.old }
 {
     let Ok((cores, shared)) = lns_parts(alloc, lns) else {
         return no_memory(disk);
@@ -306,35 +296,6 @@ fn lns_pool<
     end_hub(ran)
 }
 
-/// Runs a pool of either end. What its disk had counted before is the name of its hub.
-fn end_pool<W: Threads + Wait + Sync, P: Ports, D: Disk + Send + Drop, G: Gate + Sync>(
-    rt: &W,
-    alloc: Global,
-    end: NodeEnd,
-    disk: D,
-    workers: u32,
-    gate: &G,
-    turns: u64,
-    opens: bool,
-    ports: &mut P,
-) -> PoolEnd<D>
-    requires running { (store_of end).journal.halted ≡ false }
-    requires room { IsReady D.reach D.calls_left end disk }
-    requires stored { IsKept (store_of end) (D.holds disk) }
-    ensures ran { RanPool result.fault opens turns result.tally (P.around ports.old) (P.around ports.new) }
-    ensures cause { PoolBlames (with_disk (D.faults disk) (P.counts ports.old)) (with_disk (D.faults result.disk) (P.counts ports.new)) (D.holds result.disk) result.fault }
-    ensures loans { P.loans ports.new ≡ P.loans ports.old }
-{
-    match end {
-        NodeEnd::Lac(lac) => lac_pool::<W, P, D, G, Brand>(
-            rt, alloc, lac, disk, workers, gate, turns, opens, ports,
-        ),
-        NodeEnd::Lns(lns) => lns_pool::<W, P, D, G, Brand>(
-            rt, alloc, lns, disk, workers, gate, turns, opens, ports,
-        ),
-    }
-}
-
 /// Runs a pool: a LAC or an LNS that was opened over its disk and has made no step since, with so many workers beside the calling thread.
 /// It opens a tunnel first, where `opens` says so, at a moment of its own, and then makes so many turns. A turn reads the clock, takes a
 /// datagram, an Ethernet frame and a network frame, each where one waits, and lets time pass. A datagram is put for a worker, and each other
@@ -344,25 +305,12 @@ fn end_pool<W: Threads + Wait + Sync, P: Ports, D: Disk + Send + Drop, G: Gate +
 /// It ends early with `LinkFault`, `EtherFault` or `UplinkFault` only where the count of that port rose, and then nothing more goes to any
 /// port; with `StoreFault` only where the disk's count rose; with `StoreFull` only where the journal on the disk has so many records and
 /// those of a turn passed the limit; and with `NoMemory`. Then nothing more is taken and put, and what was put is finished. The disk comes back with it.
-pub fn node_pool<
-    W: Threads + Wait + Sync,
-    L: Link,
-    E: Ether,
-    U: Uplink,
-    D: Disk + Send + Drop,
-    C: Clock,
-    R: Rng,
-    G: Gate + Sync,
->(
+pub fn node_pool<W: Threads + Wait + Sync, P: Ports, D: Disk + Send + Drop, G: Gate + Sync>(
     rt: &W,
     alloc: Global,
     end: NodeEnd,
-    link: &mut L,
-    ether: &mut E,
-    up: &mut U,
+    ports: &mut P,
     disk: D,
-    clock: &mut C,
-    rng: &mut R,
     workers: u32,
     turns: u64,
     opens: bool,
@@ -371,18 +319,16 @@ pub fn node_pool<
     requires running { (store_of end).journal.halted ≡ false }
     requires room { IsReady D.reach D.calls_left end disk }
     requires stored { IsKept (store_of end) (D.holds disk) }
-    ensures ran { RanPool result.fault opens turns result.tally (around (R.stream rng.old) (C.gives clock.old) (given (L.given link.old) (E.given ether.old) (U.given up.old)) (waits (L.waiting link.old) (E.waiting ether.old) (U.waiting up.old)) (asked (L.asked link.old) (E.asked ether.old) (U.asked up.old))) (around (R.stream rng.new) (C.gives clock.new) (given (L.given link.new) (E.given ether.new) (U.given up.new)) (waits (L.waiting link.new) (E.waiting ether.new) (U.waiting up.new)) (asked (L.asked link.new) (E.asked ether.new) (U.asked up.new))) }
-    ensures cause { PoolBlames (faults (D.faults disk) (L.faults link.old) (E.faults ether.old) (U.faults up.old)) (faults (D.faults result.disk) (L.faults link.new) (E.faults ether.new) (U.faults up.new)) (D.holds result.disk) result.fault }
+    ensures ran { RanPool result.fault opens turns result.tally (P.around ports.old) (P.around ports.new) }
+    ensures cause { PoolBlames (with_disk (D.faults disk) (P.counts ports.old)) (with_disk (D.faults result.disk) (P.counts ports.new)) (D.holds result.disk) result.fault }
 {
-    let mut ports = HeldPorts {
-        alloc,
-        link,
-        ether,
-        up,
-        clock,
-        rng,
-    };
-    end_pool(
-        rt, alloc, end, disk, workers, gate, turns, opens, &mut ports,
-    )
+    // what the disk had counted before is the name of its hub
+    match end {
+        NodeEnd::Lac(lac) => lac_pool::<W, P, D, G, Brand>(
+            rt, alloc, lac, disk, workers, gate, turns, opens, ports,
+        ),
+        NodeEnd::Lns(lns) => lns_pool::<W, P, D, G, Brand>(
+            rt, alloc, lns, disk, workers, gate, turns, opens, ports,
+        ),
+    }
 }

@@ -28,7 +28,6 @@ fn give_to_host<Stop, P: Ports>(
     ensures err { OnErr result (Gives [] (P.around ports.old) (P.around ports.new)) }
     ensures around { IfErr result IsAround }
     ensures cause { Blames (P.counts ports.old).link (P.counts ports.new).link (P.counts ports.old).ether (P.counts ports.new).ether (P.counts ports.old).up (P.counts ports.new).up result }
-    ensures loans { P.loans ports.new ≡ P.loans ports.old }
 {
     let Some(host) = host else {
         return Ok(());
@@ -57,7 +56,6 @@ pub fn give_frame<Stop, P: Ports>(
     ensures err { OnErr result (Gives [] (P.around ports.old) (P.around ports.new)) }
     ensures around { IfErr result IsAround }
     ensures cause { Blames (P.counts ports.old).link (P.counts ports.new).link (P.counts ports.old).ether (P.counts ports.new).ether (P.counts ports.old).up (P.counts ports.new).up result }
-    ensures loans { P.loans ports.new ≡ P.loans ports.old }
 {
     match side {
         Side::Sub => give_to_host(ports, room, node, host, session, frame),
@@ -76,7 +74,6 @@ fn give_farewell<Stop, P: Ports>(
     ensures err { OnErr result (Gives [] (P.around ports.old) (P.around ports.new)) }
     ensures port { IfErr result IsOfPort }
     ensures cause { Blames (P.counts ports.old).link (P.counts ports.new).link (P.counts ports.old).ether (P.counts ports.new).ether (P.counts ports.old).up (P.counts ports.new).up result }
-    ensures loans { P.loans ports.new ≡ P.loans ports.old }
 {
     match hosts.padt(session) {
         Some(frame) => ports.send_frame(&frame),
@@ -90,7 +87,6 @@ fn give_out<Stop, P: Ports>(ports: &mut P, hosts: &Hosts, out: &Out) -> Result<(
     ensures err { OnErr result (Gives [] (P.around ports.old) (P.around ports.new)) }
     ensures port { IfErr result IsOfPort }
     ensures cause { Blames (P.counts ports.old).link (P.counts ports.new).link (P.counts ports.old).ether (P.counts ports.new).ether (P.counts ports.old).up (P.counts ports.new).up result }
-    ensures loans { P.loans ports.new ≡ P.loans ports.old }
 {
     match out {
         Out::Send { peer, bytes, .. } => ports.send(*peer, bytes.as_slice()),
@@ -116,7 +112,6 @@ pub fn give_turn<Stop, P: Ports>(
     ensures err { OnErr result (IsFront (turn_outs hosts.now given.now) (P.around ports.old) (P.around ports.new)) }
     ensures port { IfErr result IsOfPort }
     ensures cause { Blames (P.counts ports.old).link (P.counts ports.new).link (P.counts ports.old).ether (P.counts ports.new).ether (P.counts ports.old).up (P.counts ports.new).up result }
-    ensures loans { P.loans ports.new ≡ P.loans ports.old }
 {
     for out in given {
         give_out(ports, hosts, out)?;

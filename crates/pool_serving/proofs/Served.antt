@@ -5,7 +5,7 @@ use Rattle.step_hub.specs.declared.stop.StepError.{StepError}
 use Rattle.port_events.specs.declared.giving.TurnFault.{TurnFault}
 use Rattle.port_events.specs.declared.giving.TurnFault.TheVariants.{LinkFault, EtherFault, UplinkFault, NoMemory, Stopped}
 use Rattle.port_events.specs.Giving.{Blames}
-use Rattle.held_ports.specs.Around.{Around, PortCounts, Loans}
+use Rattle.held_ports.specs.Around.{Around, PortCounts}
 use Rattle.pool_turns.specs.Turns.{Put, Draws, BreaksOff, RanTo}
 use Rattle.pool_turns.proofs.Following.{gives_more, is_one_of, breaks_then}
 use Rattle.pool_serving.specs.declared.serving.PoolServing.{PoolServing}
@@ -128,15 +128,14 @@ ran_by (Some f) opens turns p q a b ok err = err
 
 -- ---- what is given back
 
-module _ {P G : Type 0} (around : P → Around) (counts : P → PortCounts) (loans : P → Loans) where
-  module _ (s a b : PoolServing P G) (h : PoolServes around counts loans s a) (ports : b.ports.ghost_name ≡ a.ports.ghost_name) (desk : b.desk.ghost_name ≡ a.desk.ghost_name) (held : loans b.ports.now ≡ loans a.ports.now) (turns : b.turns ≡ a.turns) (opens : b.opens ≡ a.opens)
+module _ {P G : Type 0} (around : P → Around) (counts : P → PortCounts) where
+  module _ (s a b : PoolServing P G) (h : PoolServes around counts s a) (ports : b.ports.ghost_name ≡ a.ports.ghost_name) (desk : b.desk.ghost_name ≡ a.desk.ghost_name) (turns : b.turns ≡ a.turns) (opens : b.opens ≡ a.opens)
       (told : KeepsTold a.desk.now.hosts b.desk.now.hosts) (puts : b.desk.now.puts ≡ a.desk.now.puts) (grows : Draws 0 (around a.ports.now) (around b.ports.now)) where
     -- nothing failed
-    pub serves_on : b.fault ≡ a.fault → counts b.ports.now ≡ counts a.ports.now → PoolServes around counts loans s b
+    pub serves_on : b.fault ≡ a.fault → counts b.ports.now ≡ counts a.ports.now → PoolServes around counts s b
     serves_on same still = record {
       ports = ports ∙ h.ports;
       desk = desk ∙ h.desk;
-      held = held ∙ h.held;
       turns = turns ∙ h.turns;
       opens = opens ∙ h.opens;
       told = told_then s.desk.now.hosts a.desk.now.hosts b.desk.now.hosts h.told told;
@@ -149,11 +148,10 @@ module _ {P G : Type 0} (around : P → Around) (counts : P → PortCounts) (loa
 
     -- it stopped then, where no port had failed before
     pub serves_short : (g : TurnFault StepError) → NotPort a.fault → b.fault ≡ Some (then_fault a.fault g) → AreBlamed (counts a.ports.now) (counts b.ports.now) (Some g)
-        → PoolServes around counts loans s b
+        → PoolServes around counts s b
     serves_short g calmly is blamed = record {
       ports = ports ∙ h.ports;
       desk = desk ∙ h.desk;
-      held = held ∙ h.held;
       turns = turns ∙ h.turns;
       opens = opens ∙ h.opens;
       told = told_then s.desk.now.hosts a.desk.now.hosts b.desk.now.hosts h.told told;
@@ -167,16 +165,15 @@ module _ {P G : Type 0} (around : P → Around) (counts : P → PortCounts) (loa
     -- whichever came of it
     pub serves_then : (r : Result ⊤ (TurnFault StepError)) → NotPort a.fault → b.fault ≡ fault_then a.fault r
         → Blames (counts a.ports.now).link (counts b.ports.now).link (counts a.ports.now).ether (counts b.ports.now).ether (counts a.ports.now).up (counts b.ports.now).up r
-        → PoolServes around counts loans s b
+        → PoolServes around counts s b
     serves_then (Ok x) n is blamed = serves_on is (same_counts (counts a.ports.now) (counts b.ports.now) blamed)
     serves_then (Err g) n is blamed = serves_short g n is blamed
 
   -- where it had stopped nothing is done
-  pub serves_none : (s : PoolServing P G) → is_some s.fault ≡ true → PoolServes around counts loans s s
+  pub serves_none : (s : PoolServing P G) → is_some s.fault ≡ true → PoolServes around counts s s
   serves_none s some = record {
     ports = refl;
     desk = refl;
-    held = refl;
     turns = refl;
     opens = refl;
     told = λ session mac is. is;
@@ -186,7 +183,7 @@ module _ {P G : Type 0} (around : P → Around) (counts : P → PortCounts) (loa
     ran = λ none. absurd (true_false (sym some ∙ ap is_some none));
   }
 
-  module _ (s b : PoolServing P G) (p q : PoolPass) (ports : b.ports.ghost_name ≡ s.ports.ghost_name) (desk : b.desk.ghost_name ≡ s.desk.ghost_name) (held : loans b.ports.now ≡ loans s.ports.now) (turns : b.turns ≡ s.turns) (opens : b.opens ≡ s.opens)
+  module _ (s b : PoolServing P G) (p q : PoolPass) (ports : b.ports.ghost_name ≡ s.ports.ghost_name) (desk : b.desk.ghost_name ≡ s.desk.ghost_name) (turns : b.turns ≡ s.turns) (opens : b.opens ≡ s.opens)
       (step : InStep s.desk.now b.desk.now p q) (r : Result ⊤ (TurnFault StepError)) (is : told_by b.fault ≡ r)
       (blamed : Blames (counts s.ports.now).link (counts b.ports.now).link (counts s.ports.now).ether (counts b.ports.now).ether (counts s.ports.now).up (counts b.ports.now).up r)
       (ok : OnOk r (HasServed s.opens s.turns p q (around s.ports.now) (around b.ports.now))) (err : OnErr r (HasBroken s.opens s.turns p q (around s.ports.now) (around b.ports.now))) where
@@ -195,11 +192,10 @@ module _ {P G : Type 0} (around : P → Around) (counts : P → PortCounts) (loa
         (subst (λ k. OnOk k (HasServed s.opens s.turns p q (around s.ports.now) (around b.ports.now))) (sym is) ok)
         (subst (λ k. OnErr k (HasBroken s.opens s.turns p q (around s.ports.now) (around b.ports.now))) (sym is) err)
 
-    pub serves_all : PoolServes around counts loans s b
+    pub serves_all : PoolServes around counts s b
     serves_all = record {
       ports = ports;
       desk = desk;
-      held = held;
       turns = turns;
       opens = opens;
       told = step.told;
@@ -209,5 +205,5 @@ module _ {P G : Type 0} (around : P → Around) (counts : P → PortCounts) (loa
       ran = λ none. has_ran.1;
     }
 
-    pub puts_all : ServesPutting around counts loans s b p q
+    pub puts_all : ServesPutting around counts s b p q
     puts_all = record { ps = has_ran.0; ran = has_ran.1; puts = has_ran.2 }

@@ -102,7 +102,6 @@ impl<G: Gate> Desk<G> {
         ensures handed { OnCalm result (HandsUp (has_stopped result) self.new.hosts (log_of pass.new.pass.seen) session sides.Sub frame.now (P.around ports.old) (P.around ports.new)) }
         ensures grows { Draws 0 (P.around ports.old) (P.around ports.new) }
         ensures cause { Blames (P.counts ports.old).link (P.counts ports.new).link (P.counts ports.old).ether (P.counts ports.new).ether (P.counts ports.old).up (P.counts ports.new).up result }
-        ensures loans { P.loans ports.new ≡ P.loans ports.old }
     {
         let host = self.host_of(rt, pool, pass, session)?;
         let node = self.hosts.number();
@@ -128,7 +127,6 @@ impl<G: Gate> Desk<G> {
         ensures handed { OnCalm result (HandsUp (has_stopped result) self.new.hosts (log_of pass.new.pass.seen) session sides.Lcp packet.now (P.around ports.old) (P.around ports.new)) }
         ensures grows { Draws 0 (P.around ports.old) (P.around ports.new) }
         ensures cause { Blames (P.counts ports.old).link (P.counts ports.new).link (P.counts ports.old).ether (P.counts ports.new).ether (P.counts ports.old).up (P.counts ports.new).up result }
-        ensures loans { P.loans ports.new ≡ P.loans ports.old }
     {
         let Ok(packet) = Bytes::from_slice(self.alloc, packet) else {
             return Err(TurnFault::NoMemory);
@@ -168,7 +166,6 @@ impl<G: Gate> Desk<G> {
         ensures handed { OnCalm result (HandsUp (has_stopped result) self.new.hosts (log_of pass.new.pass.seen) session side frame.now (P.around ports.old) (P.around ports.new)) }
         ensures grows { Draws 0 (P.around ports.old) (P.around ports.new) }
         ensures cause { Blames (P.counts ports.old).link (P.counts ports.new).link (P.counts ports.old).ether (P.counts ports.new).ether (P.counts ports.old).up (P.counts ports.new).up result }
-        ensures loans { P.loans ports.new ≡ P.loans ports.old }
     {
         match side {
             Side::Net => ports.send_up(session, frame),
@@ -195,7 +192,6 @@ impl<G: Gate> Desk<G> {
         ensures handed { OnCalm result (HandsOver (has_stopped result) self.new.hosts pass.new finished.now (P.around ports.old) (P.around ports.new)) }
         ensures grows { Draws 0 (P.around ports.old) (P.around ports.new) }
         ensures cause { Blames (P.counts ports.old).link (P.counts ports.new).link (P.counts ports.old).ether (P.counts ports.new).ether (P.counts ports.old).up (P.counts ports.new).up result }
-        ensures loans { P.loans ports.new ≡ P.loans ports.old }
     {
         let item = &finished.item;
         match &finished.done {
@@ -244,7 +240,6 @@ impl<G: Gate> Desk<G> {
         ensures handed { OnCalm result (HandsOver (has_stopped result) self.new.hosts pass.new finished.now (P.around ports.old) (P.around ports.new)) }
         ensures grows { Draws 0 (P.around ports.old) (P.around ports.new) }
         ensures cause { Blames (P.counts ports.old).link (P.counts ports.new).link (P.counts ports.old).ether (P.counts ports.new).ether (P.counts ports.old).up (P.counts ports.new).up result }
-        ensures loans { P.loans ports.new ≡ P.loans ports.old }
     {
         self.count(rt);
         self.hand_on(rt, pool, pass, ports, finished)

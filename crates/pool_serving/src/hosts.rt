@@ -44,7 +44,6 @@ impl<G: Gate> Desk<G> {
         ensures told { KeepsTold self.old.hosts self.new.hosts }
         ensures grows { Draws 0 (P.around ports.old) (P.around ports.new) }
         ensures cause { Blames (P.counts ports.old).link (P.counts ports.new).link (P.counts ports.old).ether (P.counts ports.new).ether (P.counts ports.old).up (P.counts ports.new).up result }
-        ensures loans { P.loans ports.new ≡ P.loans ports.old }
     {
         match turn_one(
             rt,
@@ -122,7 +121,6 @@ impl<G: Gate> Desk<G> {
         ensures told { KeepsTold self.old.hosts self.new.hosts }
         ensures grows { Draws 0 (P.around ports.old) (P.around ports.new) }
         ensures cause { Blames (P.counts ports.old).link (P.counts ports.new).link (P.counts ports.old).ether (P.counts ports.new).ether (P.counts ports.old).up (P.counts ports.new).up result }
-        ensures loans { P.loans ports.new ≡ P.loans ports.old }
     {
         let Discovered::Admit { src, uniq, .. } = asked else {
             unreachable!()
@@ -178,7 +176,6 @@ impl<G: Gate> Desk<G> {
         ensures told { KeepsTold self.old.hosts self.new.hosts }
         ensures grows { Draws 0 (P.around ports.old) (P.around ports.new) }
         ensures cause { Blames (P.counts ports.old).link (P.counts ports.new).link (P.counts ports.old).ether (P.counts ports.new).ether (P.counts ports.old).up (P.counts ports.new).up result }
-        ensures loans { P.loans ports.new ≡ P.loans ports.old }
     {
         let Ok(live) = self.is_live(rt, pool, pass, before) else {
             return Err(TurnFault::NoMemory);
@@ -211,7 +208,6 @@ impl<G: Gate> Desk<G> {
         ensures told { KeepsTold self.old.hosts self.new.hosts }
         ensures grows { Draws 0 (P.around ports.old) (P.around ports.new) }
         ensures cause { Blames (P.counts ports.old).link (P.counts ports.new).link (P.counts ports.old).ether (P.counts ports.new).ether (P.counts ports.old).up (P.counts ports.new).up result }
-        ensures loans { P.loans ports.new ≡ P.loans ports.old }
     {
         match found {
             HostFrame::Ignored { .. } => Ok(()),
@@ -249,7 +245,6 @@ impl<G: Gate> Desk<G> {
         ensures known { known_of pass.new.pass ≡ known_of pass.old.pass }
         ensures draws { Draws 1 (P.around ports.old) (P.around ports.new) }
         ensures cause { Blames (P.counts ports.old).link (P.counts ports.new).link (P.counts ports.old).ether (P.counts ports.new).ether (P.counts ports.old).up (P.counts ports.new).up result }
-        ensures loans { P.loans ports.new ≡ P.loans ports.old }
     {
         let block = ports.block();
         let number = self.hosts.number();

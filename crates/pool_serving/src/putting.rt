@@ -40,7 +40,6 @@ impl<G: Gate> Desk<G> {
         ensures known { known_of pass.new.pass ≡ known_of pass.old.pass }
         ensures grows { Draws 0 (P.around ports.old) (P.around ports.new) }
         ensures cause { Blames (P.counts ports.old).link (P.counts ports.new).link (P.counts ports.old).ether (P.counts ports.new).ether (P.counts ports.old).up (P.counts ports.new).up result }
-        ensures loans { P.loans ports.new ≡ P.loans ports.old }
     {
         match work_one(rt, pool, pass, &self.gate) {
             Worked::Empty => {
@@ -105,7 +104,6 @@ impl<G: Gate> Desk<G> {
         ensures err { OnErr result (puts_in pass.new ≡ puts_in pass.old) }
         ensures grows { Draws 0 (P.around ports.old) (P.around ports.new) }
         ensures cause { Blames (P.counts ports.old).link (P.counts ports.new).link (P.counts ports.old).ether (P.counts ports.new).ether (P.counts ports.old).up (P.counts ports.new).up result }
-        ensures loans { P.loans ports.new ≡ P.loans ports.old }
     {
         let mut waiting = bytes;
         for _ in rt.forever() {
@@ -136,7 +134,6 @@ impl<G: Gate> Desk<G> {
         ensures err { OnErr result (puts_in pass.new ≡ puts_in pass.old) }
         ensures draws { Draws 1 (P.around ports.old) (P.around ports.new) }
         ensures cause { Blames (P.counts ports.old).link (P.counts ports.new).link (P.counts ports.old).ether (P.counts ports.new).ether (P.counts ports.old).up (P.counts ports.new).up result }
-        ensures loans { P.loans ports.new ≡ P.loans ports.old }
     {
         let block = ports.block();
         self.put_item(rt, pool, pass, ports, peer, bytes, now, block)
@@ -156,7 +153,6 @@ impl<G: Gate> Desk<G> {
         ensures known { known_of pass.new.pass ≡ known_of pass.old.pass }
         ensures grows { Draws 0 (P.around ports.old) (P.around ports.new) }
         ensures cause { Blames (P.counts ports.old).link (P.counts ports.new).link (P.counts ports.old).ether (P.counts ports.new).ether (P.counts ports.old).up (P.counts ports.new).up result }
-        ensures loans { P.loans ports.new ≡ P.loans ports.old }
     {
         match collect(rt, pool, pass) {
             None => Ok(false),
@@ -181,7 +177,6 @@ impl<G: Gate> Desk<G> {
         ensures known { known_of pass.new.pass ≡ known_of pass.old.pass }
         ensures grows { Draws 0 (P.around ports.old) (P.around ports.new) }
         ensures cause { Blames (P.counts ports.old).link (P.counts ports.new).link (P.counts ports.old).ether (P.counts ports.new).ether (P.counts ports.old).up (P.counts ports.new).up result }
-        ensures loans { P.loans ports.new ≡ P.loans ports.old }
     {
         for _ in 0..PLACES {
             if !self.collect_one(rt, pool, pass, ports)? {
@@ -206,7 +201,6 @@ impl<G: Gate> Desk<G> {
         ensures known { known_of pass.new.pass ≡ known_of pass.old.pass }
         ensures grows { Draws 0 (P.around ports.old) (P.around ports.new) }
         ensures cause { Blames (P.counts ports.old).link (P.counts ports.new).link (P.counts ports.old).ether (P.counts ports.new).ether (P.counts ports.old).up (P.counts ports.new).up result }
-        ensures loans { P.loans ports.new ≡ P.loans ports.old }
     {
         for _ in 0..LOOKS {
             if self.given >= self.puts {
@@ -234,7 +228,6 @@ impl<G: Gate> Desk<G> {
         ensures known { known_of pass.new.pass ≡ known_of pass.old.pass }
         ensures grows { Draws 0 (P.around ports.old) (P.around ports.new) }
         ensures cause { Blames (P.counts ports.old).link (P.counts ports.new).link (P.counts ports.old).ether (P.counts ports.new).ether (P.counts ports.old).up (P.counts ports.new).up result }
-        ensures loans { P.loans ports.new ≡ P.loans ports.old }
     {
         if idle {
             self.collect_rest(rt, pool, pass, ports)

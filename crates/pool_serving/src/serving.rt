@@ -90,7 +90,7 @@ impl<'a, H: Hub, P: Ports, G: Gate> Serving<H> for PoolServing<'a, P, G> {
 
     ghost puts = { λ s. s.desk.now.puts };
 
-    ghost serves = { PoolServes P.around P.counts P.loans };
+    ghost serves = { PoolServes P.around P.counts };
 
     fn serve<W: Wait>(&mut self, rt: &W, pool: &Pool<H>, pass: &mut PoolPass)
         requires of { IsCaller pool.now pass.old }
@@ -98,8 +98,8 @@ impl<'a, H: Hub, P: Ports, G: Gate> Serving<H> for PoolServing<'a, P, G> {
         ensures same { (gave_of pass.new.pass ≡ gave_of pass.old.pass) × HasParts pass.old pass.new }
         ensures given { self.new.desk.now.given + ends_of pass.old ≡ self.old.desk.now.given + ends_of pass.new }
         ensures puts { self.new.desk.now.puts + length (known_of pass.old.pass) ≡ self.old.desk.now.puts + length (known_of pass.new.pass) }
-        ensures serves { PoolServes P.around P.counts P.loans self.old self.new }
-        ensures putting { self.old.fault ≡ None → ServesPutting P.around P.counts P.loans self.old self.new pass.old pass.new }
+        ensures serves { PoolServes P.around P.counts self.old self.new }
+        ensures putting { self.old.fault ≡ None → ServesPutting P.around P.counts self.old self.new pass.old pass.new }
     {
         if self.fault.is_some() {
             return;
@@ -117,7 +117,7 @@ impl<'a, H: Hub, P: Ports, G: Gate> Serving<H> for PoolServing<'a, P, G> {
         ensures still { (items_of pass.new.pass ≡ items_of pass.old.pass) × (finished_of pass.new.pass ≡ finished_of pass.old.pass) }
         ensures given { self.new.desk.now.given ≡ self.old.desk.now.given + 1 }
         ensures puts { self.new.desk.now.puts ≡ self.old.desk.now.puts }
-        ensures serves { (s : Holding P G) → PoolServes P.around P.counts P.loans s self.old → PoolServes P.around P.counts P.loans s self.new }
+        ensures serves { (s : Holding P G) → PoolServes P.around P.counts s self.old → PoolServes P.around P.counts s self.new }
         // Unless a port failed, exactly what the item comes to went to the ports, and nothing else.
         ensures handed { OnCalm (told_by self.new.fault) (HandsOver (has_stopped (told_by self.new.fault)) self.new.desk.now.hosts pass.new finished (P.around self.old.ports.now) (P.around self.new.ports.now)) }
     {

@@ -39,7 +39,6 @@ impl<G: Gate> Desk<G> {
         ensures known { known_of pass.new.pass ≡ known_of pass.old.pass }
         ensures draws { Draws 1 (P.around ports.old) (P.around ports.new) }
         ensures cause { Blames (P.counts ports.old).link (P.counts ports.new).link (P.counts ports.old).ether (P.counts ports.new).ether (P.counts ports.old).up (P.counts ports.new).up result }
-        ensures loans { P.loans ports.new ≡ P.loans ports.old }
     {
         let block = ports.block();
         self.run_with(rt, pool, pass, ports, now, block, event)
@@ -49,7 +48,6 @@ impl<G: Gate> Desk<G> {
     fn give_turns<P: Ports>(&self, ports: &mut P, turns: &[Turned]) -> Result<(), PoolFault>
         ensures grows { Draws 0 (P.around ports.old) (P.around ports.new) }
         ensures cause { Blames (P.counts ports.old).link (P.counts ports.new).link (P.counts ports.old).ether (P.counts ports.new).ether (P.counts ports.old).up (P.counts ports.new).up result }
-        ensures loans { P.loans ports.new ≡ P.loans ports.old }
     {
         for turned in turns {
             give_turn(ports, &self.hosts, turned.outputs().as_slice())?;
@@ -72,7 +70,6 @@ impl<G: Gate> Desk<G> {
         ensures known { known_of pass.new.pass ≡ known_of pass.old.pass }
         ensures draws { Draws 1 (P.around ports.old) (P.around ports.new) }
         ensures cause { Blames (P.counts ports.old).link (P.counts ports.new).link (P.counts ports.old).ether (P.counts ports.new).ether (P.counts ports.old).up (P.counts ports.new).up result }
-        ensures loans { P.loans ports.new ≡ P.loans ports.old }
     {
         let block = ports.block();
         let mut turns = Sequence::new(self.alloc);
@@ -95,7 +92,6 @@ impl<G: Gate> Desk<G> {
     fn skip_block<P: Ports>(&self, ports: &mut P)
         ensures draws { Draws 1 (P.around ports.old) (P.around ports.new) }
         ensures counts { P.counts ports.new ≡ P.counts ports.old }
-        ensures loans { P.loans ports.new ≡ P.loans ports.old }
     {
         let _ = ports.block();
     }
@@ -117,7 +113,6 @@ impl<G: Gate> Desk<G> {
         ensures err { OnErr result (puts_in pass.new ≡ puts_in pass.old) }
         ensures draws { Draws 1 (P.around ports.old) (P.around ports.new) }
         ensures cause { Blames (P.counts ports.old).link (P.counts ports.new).link (P.counts ports.old).ether (P.counts ports.new).ether (P.counts ports.old).up (P.counts ports.new).up result }
-        ensures loans { P.loans ports.new ≡ P.loans ports.old }
     {
         match event {
             Waiting::Datagram { peer, bytes } => {
@@ -147,7 +142,6 @@ impl<G: Gate> Desk<G> {
         ensures err { OnErr result (puts_in pass.new ≡ puts_in pass.old) }
         ensures draws { Draws (length (some_of event)) (P.around ports.old) (P.around ports.new) }
         ensures cause { Blames (P.counts ports.old).link (P.counts ports.new).link (P.counts ports.old).ether (P.counts ports.new).ether (P.counts ports.old).up (P.counts ports.new).up result }
-        ensures loans { P.loans ports.new ≡ P.loans ports.old }
     {
         match event {
             Some(event) => self.put_taken(rt, pool, pass, ports, now, event),
@@ -171,7 +165,6 @@ impl<G: Gate> Desk<G> {
         ensures known { known_of pass.new.pass ≡ known_of pass.old.pass }
         ensures draws { Draws 1 (P.around ports.old) (P.around ports.new) }
         ensures cause { Blames (P.counts ports.old).link (P.counts ports.new).link (P.counts ports.old).ether (P.counts ports.new).ether (P.counts ports.old).up (P.counts ports.new).up result }
-        ensures loans { P.loans ports.new ≡ P.loans ports.old }
     {
         match event {
             Waiting::Frame { bytes } => {
@@ -207,7 +200,6 @@ impl<G: Gate> Desk<G> {
         ensures known { known_of pass.new.pass ≡ known_of pass.old.pass }
         ensures draws { Draws (length (some_of event)) (P.around ports.old) (P.around ports.new) }
         ensures cause { Blames (P.counts ports.old).link (P.counts ports.new).link (P.counts ports.old).ether (P.counts ports.new).ether (P.counts ports.old).up (P.counts ports.new).up result }
-        ensures loans { P.loans ports.new ≡ P.loans ports.old }
     {
         match event {
             Some(event) => self.run_taken(rt, pool, pass, ports, now, event),
@@ -230,7 +222,6 @@ impl<G: Gate> Desk<G> {
         ensures ok { OnOk result ((got : Option Came) × (ps : List Put) × TakesLink now got ps (P.around ports.old) (P.around ports.new) × (puts_in pass.new ≡ puts_in pass.old ++ ps)) }
         ensures err { OnErr result (StopsAtLink (P.around ports.old) (P.around ports.new) × (puts_in pass.new ≡ puts_in pass.old)) }
         ensures cause { Blames (P.counts ports.old).link (P.counts ports.new).link (P.counts ports.old).ether (P.counts ports.new).ether (P.counts ports.old).up (P.counts ports.new).up result }
-        ensures loans { P.loans ports.new ≡ P.loans ports.old }
     {
         let got = ports.next_datagram()?;
         self.put_some(rt, pool, pass, ports, now, got)
@@ -252,7 +243,6 @@ impl<G: Gate> Desk<G> {
         ensures ok { OnOk result ((got : Option Came) × TakesEther got (P.around ports.old) (P.around ports.new)) }
         ensures err { OnErr result (StopsAtEther (P.around ports.old) (P.around ports.new)) }
         ensures cause { Blames (P.counts ports.old).link (P.counts ports.new).link (P.counts ports.old).ether (P.counts ports.new).ether (P.counts ports.old).up (P.counts ports.new).up result }
-        ensures loans { P.loans ports.new ≡ P.loans ports.old }
     {
         let got = ports.next_frame()?;
         self.run_some(rt, pool, pass, ports, now, got)
@@ -274,7 +264,6 @@ impl<G: Gate> Desk<G> {
         ensures ok { OnOk result ((got : Option Came) × TakesUplink got (P.around ports.old) (P.around ports.new)) }
         ensures err { OnErr result (StopsAtUplink (P.around ports.old) (P.around ports.new)) }
         ensures cause { Blames (P.counts ports.old).link (P.counts ports.new).link (P.counts ports.old).ether (P.counts ports.new).ether (P.counts ports.old).up (P.counts ports.new).up result }
-        ensures loans { P.loans ports.new ≡ P.loans ports.old }
     {
         let got = ports.next_lower()?;
         self.run_some(rt, pool, pass, ports, now, got)
@@ -297,7 +286,6 @@ impl<G: Gate> Desk<G> {
         ensures ok { OnOk result (Draws 1 (P.around ports.old) (P.around ports.new)) }
         ensures err { OnErr result ((n : ℕ) × Draws n (P.around ports.old) (P.around ports.new)) }
         ensures cause { Blames (P.counts ports.old).link (P.counts ports.new).link (P.counts ports.old).ether (P.counts ports.new).ether (P.counts ports.old).up (P.counts ports.new).up result }
-        ensures loans { P.loans ports.new ≡ P.loans ports.old }
     {
         self.collect_due(rt, pool, pass, ports, idle)?;
         self.tick(rt, pool, pass, ports, now)
@@ -318,7 +306,6 @@ impl<G: Gate> Desk<G> {
         ensures ok { OnOk result ((t : Turn) × (ps : List Put) × MakesTurn t ps (P.around ports.old) (P.around ports.new) × (puts_in pass.new ≡ puts_in pass.old ++ ps)) }
         ensures err { OnErr result ((ps : List Put) × StopsIn ps (P.around ports.old) (P.around ports.new) × (puts_in pass.new ≡ puts_in pass.old ++ ps)) }
         ensures cause { Blames (P.counts ports.old).link (P.counts ports.new).link (P.counts ports.old).ether (P.counts ports.new).ether (P.counts ports.old).up (P.counts ports.new).up result }
-        ensures loans { P.loans ports.new ≡ P.loans ports.old }
     {
         let now = ports.moment();
         let before = self.puts;
@@ -345,7 +332,6 @@ impl<G: Gate> Desk<G> {
         ensures ok { OnOk result (Begins opens (P.around ports.old) (P.around ports.new)) }
         ensures err { OnErr result (MayBegin opens (P.around ports.old) (P.around ports.new)) }
         ensures cause { Blames (P.counts ports.old).link (P.counts ports.new).link (P.counts ports.old).ether (P.counts ports.new).ether (P.counts ports.old).up (P.counts ports.new).up result }
-        ensures loans { P.loans ports.new ≡ P.loans ports.old }
     {
         if opens {
             let now = ports.moment();
@@ -370,7 +356,6 @@ impl<G: Gate> Desk<G> {
         ensures ok { OnOk result ((ts : List Turn) × (ps : List Put) × (length ts ≡ turns) × Runs ts ps (P.around ports.old) (P.around ports.new) × (puts_in pass.new ≡ puts_in pass.old ++ ps)) }
         ensures err { OnErr result ((ps : List Put) × BreaksOff false turns ps (P.around ports.old) (P.around ports.new) × (puts_in pass.new ≡ puts_in pass.old ++ ps)) }
         ensures cause { Blames (P.counts ports.old).link (P.counts ports.new).link (P.counts ports.old).ether (P.counts ports.new).ether (P.counts ports.old).up (P.counts ports.new).up result }
-        ensures loans { P.loans ports.new ≡ P.loans ports.old }
     {
         for _ in 0..turns {
             self.turn(rt, pool, pass, ports)?;
@@ -395,7 +380,6 @@ impl<G: Gate> Desk<G> {
         ensures ok { OnOk result ((ps : List Put) × Serves opens turns ps (P.around ports.old) (P.around ports.new) × (puts_in pass.new ≡ puts_in pass.old ++ ps)) }
         ensures err { OnErr result ((ps : List Put) × BreaksOff opens turns ps (P.around ports.old) (P.around ports.new) × (puts_in pass.new ≡ puts_in pass.old ++ ps)) }
         ensures cause { Blames (P.counts ports.old).link (P.counts ports.new).link (P.counts ports.old).ether (P.counts ports.new).ether (P.counts ports.old).up (P.counts ports.new).up result }
-        ensures loans { P.loans ports.new ≡ P.loans ports.old }
     {
         self.begin(rt, pool, pass, ports, opens)?;
         self.make_turns(rt, pool, pass, ports, turns)

@@ -13,6 +13,7 @@ ghost use Rattle.pool_top.specs.Runs.{answer_of, RunBlames, RanFrom, RanTo};
 
 use block_source::next_block;
 use disk_core::Disk;
+use held_ports::NodePorts;
 use node_pool::{PoolEnd, node_pool};
 use node_run::{NodeEnd, NodeFault, NodeStop, logs_grow};
 use node_top::{NodeExit, config_of, of_giving, of_opening, of_serving};
@@ -58,12 +59,8 @@ fn give_and_run<
     alloc: Global,
     end: NodeEnd,
     outs: &Outputs,
-    link: &mut L,
-    ether: &mut E,
-    up: &mut U,
+    ports: &mut NodePorts<L, E, U, C, R>,
     disk: D,
-    clock: &mut C,
-    rng: &mut R,
     workers: u32,
     turns: u64,
     opens: bool,
@@ -72,10 +69,10 @@ fn give_and_run<
     requires running { (store_of end).journal.halted ≡ false }
     requires room { IsReady D.reach D.calls_left end disk }
     requires stored { IsKept (store_of end) (D.holds disk) }
-    ensures ran { RanFrom opens turns outs.now result.ran (D.holds result.disk) (around (R.stream rng.old) (C.gives clock.old) (given (L.given link.old) (E.given ether.old) (U.given up.old)) (waits (L.waiting link.old) (E.waiting ether.old) (U.waiting up.old)) (asked (L.asked link.old) (E.asked ether.old) (U.asked up.old))) (around (R.stream rng.new) (C.gives clock.new) (given (L.given link.new) (E.given ether.new) (U.given up.new)) (waits (L.waiting link.new) (E.waiting ether.new) (U.waiting up.new)) (asked (L.asked link.new) (E.asked ether.new) (U.asked up.new))) }
-    ensures cause { RunBlames (faults (D.faults disk) (L.faults link.old) (E.faults ether.old) (U.faults up.old)) (faults (D.faults result.disk) (L.faults link.new) (E.faults ether.new) (U.faults up.new)) result.ran }
+    ensures ran { RanFrom opens turns outs.now result.ran (D.holds result.disk) (around (R.stream ports.old.rng) (C.gives ports.old.clock) (given (L.given ports.old.link) (E.given ports.old.ether) (U.given ports.old.up)) (waits (L.waiting ports.old.link) (E.waiting ports.old.ether) (U.waiting ports.old.up)) (asked (L.asked ports.old.link) (E.asked ports.old.ether) (U.asked ports.old.up))) (around (R.stream ports.new.rng) (C.gives ports.new.clock) (given (L.given ports.new.link) (E.given ports.new.ether) (U.given ports.new.up)) (waits (L.waiting ports.new.link) (E.waiting ports.new.ether) (U.waiting ports.new.up)) (asked (L.asked ports.new.link) (E.asked ports.new.ether) (U.asked ports.new.up))) }
+    ensures cause { RunBlames (faults (D.faults disk) (L.faults ports.old.link) (E.faults ports.old.ether) (U.faults ports.old.up)) (faults (D.faults result.disk) (L.faults ports.new.link) (E.faults ports.new.ether) (U.faults ports.new.up)) result.ran }
 {
-    match give_all::<NodeStop, L, E, U>(outs, link, ether, up) {
+    match give_all::<NodeStop, L, E, U>(outs, &mut ports.link, &mut ports.ether, &mut ports.up) {
         Err(fault) => {
             let exit = of_giving(fault);
             PlanRan {
@@ -84,9 +81,7 @@ fn give_and_run<
             }
         }
         Ok(()) => {
-            let ended = node_pool(
-                rt, alloc, end, link, ether, up, disk, clock, rng, workers, turns, opens, gate,
-            );
+            let ended = node_pool(rt, alloc, end, ports, disk, workers, turns, opens, gate);
             let PoolEnd { fault, tally, disk } = ended;
             let ran = answer_of(fault, tally);
             PlanRan { ran, disk }
@@ -110,22 +105,18 @@ pub(crate) fn run<
     rt: &W,
     alloc: Global,
     plan: Plan,
-    link: &mut L,
-    ether: &mut E,
-    up: &mut U,
+    ports: &mut NodePorts<L, E, U, C, R>,
     disk: D,
-    clock: &mut C,
-    rng: &mut R,
     log: &mut O,
     gate: &G,
 ) -> PlanRan<D>
-    ensures ran { RanTo D.holds D.reach D.calls_left D.faults (planned plan) result.ran disk result.disk (sunk (O.faults log.old) (O.taken log.old)) (sunk (O.faults log.new) (O.taken log.new)) (around (R.stream rng.old) (C.gives clock.old) (given (L.given link.old) (E.given ether.old) (U.given up.old)) (waits (L.waiting link.old) (E.waiting ether.old) (U.waiting up.old)) (asked (L.asked link.old) (E.asked ether.old) (U.asked up.old))) (around (R.stream rng.new) (C.gives clock.new) (given (L.given link.new) (E.given ether.new) (U.given up.new)) (waits (L.waiting link.new) (E.waiting ether.new) (U.waiting up.new)) (asked (L.asked link.new) (E.asked ether.new) (U.asked up.new))) }
+    ensures ran { RanTo D.holds D.reach D.calls_left D.faults (planned plan) result.ran disk result.disk (sunk (O.faults log.old) (O.taken log.old)) (sunk (O.faults log.new) (O.taken log.new)) (around (R.stream ports.old.rng) (C.gives ports.old.clock) (given (L.given ports.old.link) (E.given ports.old.ether) (U.given ports.old.up)) (waits (L.waiting ports.old.link) (E.waiting ports.old.ether) (U.waiting ports.old.up)) (asked (L.asked ports.old.link) (E.asked ports.old.ether) (U.asked ports.old.up))) (around (R.stream ports.new.rng) (C.gives ports.new.clock) (given (L.given ports.new.link) (E.given ports.new.ether) (U.given ports.new.up)) (waits (L.waiting ports.new.link) (E.waiting ports.new.ether) (U.waiting ports.new.up)) (asked (L.asked ports.new.link) (E.asked ports.new.ether) (U.asked ports.new.up))) }
     ensures grows { Grows (sunk (O.faults log.old) (O.taken log.old)) (sunk (O.faults log.new) (O.taken log.new)) }
-    ensures cause { RunBlames (faults (D.faults disk) (L.faults link.old) (E.faults ether.old) (U.faults up.old)) (faults (D.faults result.disk) (L.faults link.new) (E.faults ether.new) (U.faults up.new)) result.ran }
+    ensures cause { RunBlames (faults (D.faults disk) (L.faults ports.old.link) (E.faults ports.old.ether) (U.faults ports.old.up)) (faults (D.faults result.disk) (L.faults ports.new.link) (E.faults ports.new.ether) (U.faults ports.new.up)) result.ran }
 {
     let mut disk = disk;
-    let moment = clock.now();
-    let block = next_block(rng);
+    let moment = ports.clock.now();
+    let block = next_block(&mut ports.rng);
     let (lac, workers, turns, opens) = (plan.lac, plan.workers, plan.turns, plan.opens);
     match NodeEnd::open(alloc, &mut disk, log, lac, config_of(plan), moment, block) {
         Err(why) => {
@@ -136,7 +127,7 @@ pub(crate) fn run<
             }
         }
         Ok((end, outs)) => give_and_run(
-            rt, alloc, end, &outs, link, ether, up, disk, clock, rng, workers, turns, opens, gate,
+            rt, alloc, end, &outs, ports, disk, workers, turns, opens, gate,
         ),
     }
 }

@@ -15,6 +15,7 @@ ghost use Rattle.pool_top.specs.Ends.{Finishes, PoolEnds};
 use crate::running::{PlanRan, run};
 use crate::telling::tally_text;
 use disk_core::Disk;
+use held_ports::NodePorts;
 use node_run::{write_lines, write_lost};
 use node_top::{NodeExit, exit_text, tell};
 use node_words::{PlanError, asks_for_help, asks_for_version, pool_help, read_plan};
@@ -80,23 +81,17 @@ fn run_words<
     rt: &W,
     alloc: Global,
     words: &[String],
-    link: &mut L,
-    ether: &mut E,
-    up: &mut U,
+    ports: &mut NodePorts<L, E, U, C, R>,
     disk: D,
-    clock: &mut C,
-    rng: &mut R,
     sink: &mut K,
     log: &mut O,
     gate: &G,
 ) -> Pooled<D>
-    ensures { PoolEnds (λ p ran left. RanTo D.holds D.reach D.calls_left D.faults p ran disk result.disk (sunk (O.faults log.old) (O.taken log.old)) left (around (R.stream rng.old) (C.gives clock.old) (given (L.given link.old) (E.given ether.old) (U.given up.old)) (waits (L.waiting link.old) (E.waiting ether.old) (U.waiting up.old)) (asked (L.asked link.old) (E.asked ether.old) (U.asked up.old))) (around (R.stream rng.new) (C.gives clock.new) (given (L.given link.new) (E.given ether.new) (U.given up.new)) (waits (L.waiting link.new) (E.waiting ether.new) (U.waiting up.new)) (asked (L.asked link.new) (E.asked ether.new) (U.asked up.new)))) None (plan_of (map string_bytes words.now)) result.exit disk result.disk (sunk (K.faults sink.old) (K.taken sink.old)) (sunk (K.faults sink.new) (K.taken sink.new)) (sunk (O.faults log.old) (O.taken log.old)) (sunk (O.faults log.new) (O.taken log.new)) (faults (D.faults disk) (L.faults link.old) (E.faults ether.old) (U.faults up.old)) (faults (D.faults result.disk) (L.faults link.new) (E.faults ether.new) (U.faults up.new)) }
+    ensures { PoolEnds (λ p ran left. RanTo D.holds D.reach D.calls_left D.faults p ran disk result.disk (sunk (O.faults log.old) (O.taken log.old)) left (around (R.stream ports.old.rng) (C.gives ports.old.clock) (given (L.given ports.old.link) (E.given ports.old.ether) (U.given ports.old.up)) (waits (L.waiting ports.old.link) (E.waiting ports.old.ether) (U.waiting ports.old.up)) (asked (L.asked ports.old.link) (E.asked ports.old.ether) (U.asked ports.old.up))) (around (R.stream ports.new.rng) (C.gives ports.new.clock) (given (L.given ports.new.link) (E.given ports.new.ether) (U.given ports.new.up)) (waits (L.waiting ports.new.link) (E.waiting ports.new.ether) (U.waiting ports.new.up)) (asked (L.asked ports.new.link) (E.asked ports.new.ether) (U.asked ports.new.up)))) None (plan_of (map string_bytes words.now)) result.exit disk result.disk (sunk (K.faults sink.old) (K.taken sink.old)) (sunk (K.faults sink.new) (K.taken sink.new)) (sunk (O.faults log.old) (O.taken log.old)) (sunk (O.faults log.new) (O.taken log.new)) (faults (D.faults disk) (L.faults ports.old.link) (E.faults ports.old.ether) (U.faults ports.old.up)) (faults (D.faults result.disk) (L.faults ports.new.link) (E.faults ports.new.ether) (U.faults ports.new.up)) }
 {
     match read_plan(alloc, words) {
         Ok(plan) => {
-            let PlanRan { ran, disk } = run(
-                rt, alloc, plan, link, ether, up, disk, clock, rng, log, gate,
-            );
+            let PlanRan { ran, disk } = run(rt, alloc, plan, ports, disk, log, gate);
             let exit = finish(alloc, sink, log, ran);
             Pooled { exit, disk }
         }
@@ -111,8 +106,8 @@ fn run_words<
     }
 }
 
-/// Runs the pool that the words ask for, of which the first is `pool`: over a link, an Ethernet port and an uplink, the disk of its store,
-/// a clock, and a generator of random bytes; an operator reads its log. With `--help` or `--version` among the words behind the first its
+/// Runs the pool that the words ask for, of which the first is `pool`: over a link, an Ethernet port and an uplink, a clock and a generator
+/// of random bytes, which it is lent as one value, and the disk of its store; an operator reads its log. With `--help` or `--version` among the words behind the first its
 /// help, or this version, is written, and nothing else. Words that are no plan have how the command is used written. The disk comes back in
 /// each case; it stands behind a lock while the workers run.
 ///
@@ -140,17 +135,13 @@ pub fn pool_top<
     alloc: Global,
     words: &[String],
     version: &[u8],
-    link: &mut L,
-    ether: &mut E,
-    up: &mut U,
+    ports: &mut NodePorts<L, E, U, C, R>,
     disk: D,
-    clock: &mut C,
-    rng: &mut R,
     sink: &mut K,
     log: &mut O,
     gate: &G,
 ) -> Pooled<D>
-    ensures { PoolEnds (λ p ran left. RanTo D.holds D.reach D.calls_left D.faults p ran disk result.disk (sunk (O.faults log.old) (O.taken log.old)) left (around (R.stream rng.old) (C.gives clock.old) (given (L.given link.old) (E.given ether.old) (U.given up.old)) (waits (L.waiting link.old) (E.waiting ether.old) (U.waiting up.old)) (asked (L.asked link.old) (E.asked ether.old) (U.asked up.old))) (around (R.stream rng.new) (C.gives clock.new) (given (L.given link.new) (E.given ether.new) (U.given up.new)) (waits (L.waiting link.new) (E.waiting ether.new) (U.waiting up.new)) (asked (L.asked link.new) (E.asked ether.new) (U.asked up.new)))) (asked_text pool_help_text version.now words.now) (plan_of (map string_bytes words.now)) result.exit disk result.disk (sunk (K.faults sink.old) (K.taken sink.old)) (sunk (K.faults sink.new) (K.taken sink.new)) (sunk (O.faults log.old) (O.taken log.old)) (sunk (O.faults log.new) (O.taken log.new)) (faults (D.faults disk) (L.faults link.old) (E.faults ether.old) (U.faults up.old)) (faults (D.faults result.disk) (L.faults link.new) (E.faults ether.new) (U.faults up.new)) }
+    ensures { PoolEnds (λ p ran left. RanTo D.holds D.reach D.calls_left D.faults p ran disk result.disk (sunk (O.faults log.old) (O.taken log.old)) left (around (R.stream ports.old.rng) (C.gives ports.old.clock) (given (L.given ports.old.link) (E.given ports.old.ether) (U.given ports.old.up)) (waits (L.waiting ports.old.link) (E.waiting ports.old.ether) (U.waiting ports.old.up)) (asked (L.asked ports.old.link) (E.asked ports.old.ether) (U.asked ports.old.up))) (around (R.stream ports.new.rng) (C.gives ports.new.clock) (given (L.given ports.new.link) (E.given ports.new.ether) (U.given ports.new.up)) (waits (L.waiting ports.new.link) (E.waiting ports.new.ether) (U.waiting ports.new.up)) (asked (L.asked ports.new.link) (E.asked ports.new.ether) (U.asked ports.new.up)))) (asked_text pool_help_text version.now words.now) (plan_of (map string_bytes words.now)) result.exit disk result.disk (sunk (K.faults sink.old) (K.taken sink.old)) (sunk (K.faults sink.new) (K.taken sink.new)) (sunk (O.faults log.old) (O.taken log.old)) (sunk (O.faults log.new) (O.taken log.new)) (faults (D.faults disk) (L.faults ports.old.link) (E.faults ports.old.ether) (U.faults ports.old.up)) (faults (D.faults result.disk) (L.faults ports.new.link) (E.faults ports.new.ether) (U.faults ports.new.up)) }
 {
     if asks_for_help(words) {
         let exit = tell(sink, pool_help(), NodeExit::Ok);
@@ -160,7 +151,5 @@ pub fn pool_top<
         let exit = tell(sink, version, NodeExit::Ok);
         return Pooled { exit, disk };
     }
-    run_words(
-        rt, alloc, words, link, ether, up, disk, clock, rng, sink, log, gate,
-    )
+    run_words(rt, alloc, words, ports, disk, sink, log, gate)
 }

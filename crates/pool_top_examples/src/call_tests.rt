@@ -117,14 +117,12 @@ fn ran<W: Threads + Wait + Sync, G: Gate + Sync>(
 
 /// What the pool of a line writes over ports that don't fail, for which two datagrams of one byte wait.
 fn written<W: Threads + Wait + Sync>(rt: &W, alloc: Global, line: &str) -> Option<MemorySink> {
-    let mut link = SteadyLink::new(alloc, datagrams(alloc, LAC_ADDRESS, &[b"\0", b"\0"])?);
-    let mut ether = SteadyEther::new(alloc, Frames::new(alloc));
-    let mut up = SteadyUplink::new(alloc, LowerFrames::new(alloc));
+    let link = SteadyLink::new(alloc, datagrams(alloc, LAC_ADDRESS, &[b"\0", b"\0"])?);
+    let ether = SteadyEther::new(alloc, Frames::new(alloc));
+    let up = SteadyUplink::new(alloc, LowerFrames::new(alloc));
     let disk = SteadyDisk::new(alloc, Bytes::new(alloc)).ok()?;
     let mut sink = MemorySink::new(alloc, Fails::new(alloc));
-    let pooled = run_over(
-        rt, alloc, line, &mut link, &mut ether, &mut up, disk, &mut sink, &Open,
-    )?;
+    let pooled = run_over(rt, alloc, line, link, ether, up, disk, &mut sink, &Open)?;
     if pooled.exit == NodeExit::Ok {
         Some(sink)
     } else {
@@ -150,7 +148,7 @@ fn an_lns_answers_an_sccrq(rt: HostRuntime) -> Result<(), Fail> {
     };
     assert!(rt; ran.wrote(b"taken 1\nup 0\ndropped 0\n"));
     assert!(rt; ran.sent(LAC_ADDRESS, SCCRP) == 1);
-    assert!(rt; ran.around.link.given().len() == 1);
+    assert!(rt; ran.around.ports.link.given().len() == 1);
     Ok(())
 }
 
@@ -176,7 +174,7 @@ fn an_lns_sets_up_a_call_and_answers_its_lcp_request(rt: HostRuntime) -> Result<
     assert!(rt; ran.wrote(b"taken 5\nup 1\ndropped 0\n"));
     assert!(rt; ran.sent(LAC_ADDRESS, ACKNOWLEDGEMENT) == 1);
     assert!(rt; ran.sent(LAC_ADDRESS, SCCRP) == 1);
-    assert!(rt; ran.around.up.given().is_empty());
+    assert!(rt; ran.around.ports.up.given().is_empty());
     Ok(())
 }
 
@@ -188,14 +186,14 @@ fn a_letter_is_sent_again_once_its_time_has_passed(rt: HostRuntime) -> Result<()
     };
     assert!(rt; ran.wrote(b"taken 0\nup 0\ndropped 0\n"));
     assert!(rt; ran.sent(LOCAL_LNS, SCCRQ) == 2);
-    assert!(rt; ran.around.link.given().len() == 2);
-    assert!(rt; ran.around.ether.given().is_empty());
+    assert!(rt; ran.around.ports.link.given().len() == 2);
+    assert!(rt; ran.around.ports.ether.given().is_empty());
     Ok(())
 }
 
 /// One PADO went out, and nothing else to the port.
 fn gave_a_pado(ran: &Ran) -> bool {
-    match ran.around.ether.given() {
+    match ran.around.ports.ether.given() {
         [pado] => {
             let bytes = pado.as_slice();
             bytes.len() == PADO_FRONT.len() + 16 + PADO_END.len()
@@ -235,7 +233,7 @@ fn frames_of_a_call_that_was_kept_go_to_its_port(rt: HostRuntime) -> Result<(), 
     };
     assert!(rt; ran.wrote(b"taken 1\nup 1\ndropped 0\n"));
     assert!(rt; ran.gave(TO_PORT) == 1);
-    assert!(rt; ran.around.ether.given().len() == 1);
+    assert!(rt; ran.around.ports.ether.given().len() == 1);
     Ok(())
 }
 
@@ -256,7 +254,7 @@ fn frames_of_another_peer_go_nowhere(rt: HostRuntime) -> Result<(), Fail> {
         return Ok(());
     };
     assert!(rt; ran.wrote(b"taken 1\nup 0\ndropped 1\n"));
-    assert!(rt; ran.around.ether.given().is_empty());
+    assert!(rt; ran.around.ports.ether.given().is_empty());
     Ok(())
 }
 

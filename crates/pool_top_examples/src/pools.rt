@@ -2,25 +2,27 @@
 
 use block_source::seeded;
 use disk_core::{Disk, Fails, MemoryDisk};
+use held_ports::NodePorts;
 use memory_ports::{ManualClock, MemoryEther, MemoryLink, MemoryUplink, Moments};
 use node_top::NodeExit;
 use pool_top::{Pooled, pool_top};
 use port_traits::{
     Datagram, Datagrams, Ether, Fails as PortFails, Frames, Link, LowerFrames, MemorySink, Uplink,
 };
+use rand_chacha::ChaCha20Rng;
 use session_workers::Gate;
 use std::alloc::Global;
 use std::sync::Wait;
 use std::thread::Threads;
 use wire_base::Bytes;
 
+/// Ports in memory, with a clock that is set and a generator with a seed.
+pub type MemoryPorts = NodePorts<MemoryLink, MemoryEther, MemoryUplink, ManualClock, ChaCha20Rng>;
+
 /// What is around a pool but its disk.
 #[derive(Drop)]
 pub struct Surroundings {
-    pub link: MemoryLink,
-    pub ether: MemoryEther,
-    pub up: MemoryUplink,
-    pub clock: ManualClock,
+    pub ports: MemoryPorts,
     pub sink: MemorySink,
     pub log: MemorySink,
 }
@@ -97,10 +99,14 @@ pub fn around(
     Box::new(
         alloc,
         Surroundings {
-            link: MemoryLink::new(alloc, datagrams, fails_at(alloc, link)),
-            ether: MemoryEther::new(alloc, frames, fails_at(alloc, ether)),
-            up: MemoryUplink::new(alloc, LowerFrames::new(alloc), fails_at(alloc, up)),
-            clock: clock(alloc),
+            ports: NodePorts {
+                alloc,
+                link: MemoryLink::new(alloc, datagrams, fails_at(alloc, link)),
+                ether: MemoryEther::new(alloc, frames, fails_at(alloc, ether)),
+                up: MemoryUplink::new(alloc, LowerFrames::new(alloc), fails_at(alloc, up)),
+                clock: clock(alloc),
+                rng: seeded([7u8; 32]),
+            },
             sink: MemorySink::new(alloc, fails_at(alloc, sink)),
             log: MemorySink::new(alloc, no_fails(alloc)),
         },
@@ -120,37 +126,39 @@ fn words_of(alloc: Global, line: &str) -> Option<Vec<String>> {
 /// Runs the pool of a line over these ports.
 pub fn run_over<
     W: Threads + Wait + Sync,
-    L: Link,
-    E: Ether,
-    U: Uplink,
+    L: Link + Drop,
+    E: Ether + Drop,
+    U: Uplink + Drop,
     D: Disk + Send + Drop,
     G: Gate + Sync,
 >(
     rt: &W,
     alloc: Global,
     line: &str,
-    link: &mut L,
-    ether: &mut E,
-    up: &mut U,
+    link: L,
+    ether: E,
+    up: U,
     disk: D,
     sink: &mut MemorySink,
     gate: &G,
 ) -> Option<Pooled<D>> {
     let words = words_of(alloc, line)?;
-    let mut clock = clock(alloc);
-    let mut generator = seeded([7u8; 32]);
+    let mut ports = NodePorts {
+        alloc,
+        link,
+        ether,
+        up,
+        clock: clock(alloc),
+        rng: seeded([7u8; 32]),
+    };
     let mut log = MemorySink::new(alloc, no_fails(alloc));
     Some(pool_top(
         rt,
         alloc,
         words.as_slice(),
         b"l2tp 0\n",
-        link,
-        ether,
-        up,
+        &mut ports,
         disk,
-        &mut clock,
-        &mut generator,
         sink,
         &mut log,
         gate,
@@ -168,26 +176,14 @@ pub fn run<W: Threads + Wait + Sync, G: Gate + Sync>(
 ) -> Option<Ran> {
     let mut around = around;
     let words = words_of(alloc, line)?;
-    let mut generator = seeded([7u8; 32]);
-    let Surroundings {
-        link,
-        ether,
-        up,
-        clock,
-        sink,
-        log,
-    } = &mut *around;
+    let Surroundings { ports, sink, log } = &mut *around;
     let pooled = pool_top(
         rt,
         alloc,
         words.as_slice(),
         b"l2tp 0\n",
-        link,
-        ether,
-        up,
+        ports,
         disk,
-        clock,
-        &mut generator,
         sink,
         log,
         gate,
@@ -213,7 +209,7 @@ impl Ran {
     /// How often the link was given this for this peer.
     pub fn sent(&self, peer: u32, bytes: &[u8]) -> usize {
         let mut count = 0usize;
-        for given in self.around.link.given() {
+        for given in self.around.ports.link.given() {
             if given.peer == peer && given.bytes.as_slice() == bytes {
                 count = count.saturating_add(1);
             }
@@ -224,7 +220,7 @@ impl Ran {
     /// How often the Ethernet port was given this.
     pub fn gave(&self, bytes: &[u8]) -> usize {
         let mut count = 0usize;
-        for given in self.around.ether.given() {
+        for given in self.around.ports.ether.given() {
             if given.as_slice() == bytes {
                 count = count.saturating_add(1);
             }

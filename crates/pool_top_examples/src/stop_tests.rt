@@ -52,7 +52,7 @@ fn a_fault_of_the_disk_ends_a_pool_at_each_call(rt: HostRuntime) -> Result<(), F
             "call {call}"
         );
         assert!(rt;
-            ran.around.link.given().len() == answers_before(call),
+            ran.around.ports.link.given().len() == answers_before(call),
             "call {call}"
         );
     }
@@ -67,7 +67,7 @@ fn without_a_fault_it_makes_all_turns(rt: HostRuntime) -> Result<(), Fail> {
     };
     assert!(rt; ran.wrote(b"taken 4\nup 0\ndropped 0\n"));
     // an SCCRP, the acknowledgement of the SCCCN, an ICRP, and an LCP request with the acknowledgement of the ICCN
-    assert!(rt; ran.around.link.given().len() == 5);
+    assert!(rt; ran.around.ports.link.given().len() == 5);
     assert!(rt; ran.disk.bytes().len() == 161);
     Ok(())
 }
@@ -170,6 +170,6 @@ fn a_full_store_ends_a_pool(rt: HostRuntime) -> Result<(), Fail> {
     let full = NodeExit::StoreFull { records: 1_048_576 };
     assert!(rt; ran.told(full, b"store full: 1048576\n"));
     assert!(rt; ran.exit.status() == 13);
-    assert!(rt; ran.around.link.given().is_empty());
+    assert!(rt; ran.around.ports.link.given().is_empty());
     Ok(())
 }

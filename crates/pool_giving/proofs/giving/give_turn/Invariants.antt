@@ -7,5 +7,4 @@ abbrev pub invariant-loop-out : goal.invariant-loop-out
 invariant-loop-out g l = record {
   gives : Gives (turn_outs l.hosts (take l.out-index l.given)) (g.P.Ports.around l.fn.ports) (g.P.Ports.around l.ports);
   counts : g.P.Ports.counts l.ports ≡ g.P.Ports.counts l.fn.ports;
-  loans : g.P.Ports.loans l.ports ≡ g.P.Ports.loans l.fn.ports;
 }

@@ -12,5 +12,4 @@ invariant-loop g l = record {
   known : known_of l.pass.pass ≡ known_of l.fn.pass.pass;
   grows : Draws 0 (g.P.Ports.around l.fn.ports) (g.P.Ports.around l.ports);
   counts : g.P.Ports.counts l.ports ≡ g.P.Ports.counts l.fn.ports;
-  loans : g.P.Ports.loans l.ports ≡ g.P.Ports.loans l.fn.ports;
 }

@@ -10,5 +10,4 @@ pub loop-turned-preserved : goal.loop-turned-preserved
 loop-turned-preserved g c = record {
   grows = draws_then 0 0 _ _ _ c.loop-turned.invariant.grows (gives_draws _ _ _ c.in_ok-give_turn.ensures.ok);
   counts = same_counts _ _ c.in_ok-give_turn.ensures.cause ∙ c.loop-turned.invariant.counts;
-  loans = c.in_ok-give_turn.ensures.loans ∙ c.loop-turned.invariant.loans;
 }

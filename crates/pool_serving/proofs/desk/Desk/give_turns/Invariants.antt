@@ -6,5 +6,4 @@ abbrev pub invariant-loop-turned : goal.invariant-loop-turned
 invariant-loop-turned g l = record {
   grows : Draws 0 (g.P.Ports.around l.fn.ports) (g.P.Ports.around l.ports);
   counts : g.P.Ports.counts l.ports ≡ g.P.Ports.counts l.fn.ports;
-  loans : g.P.Ports.loans l.ports ≡ g.P.Ports.loans l.fn.ports;
 }

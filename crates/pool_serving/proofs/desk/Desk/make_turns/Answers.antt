@@ -12,7 +12,6 @@ loop-preserved g c = let a = g.P.Ports.around in
       step = step_then _ _ _ _ _ _ c.loop.invariant.step c.turn.ensures.step;
       runs = one_more c.loop.counter (c.loop.counter + 1) h.0 h.1 c.args.pass.now c.loop.pass c.turn.new.pass (a c.args.ports.now) (a c.loop.ports) (a c.turn.new.ports) refl c.loop.invariant.runs h.2 h.3;
       counts = same_counts _ _ c.in_ok-turn.ensures.cause ∙ c.loop.invariant.counts;
-      loans = c.turn.ensures.loans ∙ c.loop.invariant.loans;
     }
 
 pub returns-in_err-turn-clause-err : goal.returns-in_err-turn-clause-err

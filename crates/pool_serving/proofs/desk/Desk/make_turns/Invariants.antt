@@ -11,5 +11,4 @@ invariant-loop g l = record {
   step : InStep l.fn.self l.self l.fn.pass l.pass;
   runs : (ts : List Turn) × (ps : List Put) × (length ts ≡ l.counter) × Runs ts ps (g.P.Ports.around l.fn.ports) (g.P.Ports.around l.ports) × (puts_in l.pass ≡ puts_in l.fn.pass ++ ps);
   counts : g.P.Ports.counts l.ports ≡ g.P.Ports.counts l.fn.ports;
-  loans : g.P.Ports.loans l.ports ≡ g.P.Ports.loans l.fn.ports;
 }

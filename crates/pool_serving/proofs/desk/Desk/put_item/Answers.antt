@@ -4,7 +4,7 @@ use Rattle.pool_serving.proofs.Passes.{same_counts, step_none, step_then}
 use Rattle.pool_serving.proofs.desk.Desk.put_item.Goals as goal
 
 pub loop-init : goal.loop-init
-loop-init g c = record { of = c.requires; bytes = refl; step = step_none _ _; known = refl; grows = draws_none _; counts = refl; loans = refl }
+loop-init g c = record { of = c.requires; bytes = refl; step = step_none _ _; known = refl; grows = draws_none _; counts = refl }
 
 pub loop-preserved : goal.loop-preserved
 loop-preserved g c = record {
@@ -14,7 +14,6 @@ loop-preserved g c = record {
   known = c.work.ensures.known ∙ (c.in-Err.ensures.err ∙ c.loop.invariant.known);
   grows = draws_then 0 0 _ _ _ c.loop.invariant.grows c.work.ensures.grows;
   counts = same_counts _ _ c.in_ok-work.ensures.cause ∙ c.loop.invariant.counts;
-  loans = c.work.ensures.loans ∙ c.loop.invariant.loans;
 }
 
 pub returns-in_err-work-clause-step : goal.returns-in_err-work-clause-step

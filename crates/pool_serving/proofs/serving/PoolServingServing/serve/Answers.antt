@@ -6,11 +6,11 @@ pub returns-clause-serves : goal.returns-clause-serves
 returns-clause-serves g c =
     let p = g.P.Ports in
     let s = c.serve_all-outcome in
-    serves_all p.around p.counts p.loans c.args.self.now _ c.args.pass.now s.new.pass refl refl s.ensures.loans refl refl s.ensures.step s.result c.fault_of-self.ensures s.ensures.cause s.ensures.ok s.ensures.err
+    serves_all p.around p.counts c.args.self.now _ c.args.pass.now s.new.pass refl refl refl refl s.ensures.step s.result c.fault_of-self.ensures s.ensures.cause s.ensures.ok s.ensures.err
 
 pub returns-clause-putting : goal.returns-clause-putting
 returns-clause-putting g c =
     λ none.
     let p = g.P.Ports in
     let s = c.serve_all-outcome in
-    puts_all p.around p.counts p.loans c.args.self.now _ c.args.pass.now s.new.pass refl refl s.ensures.loans refl refl s.ensures.step s.result c.fault_of-self.ensures s.ensures.cause s.ensures.ok s.ensures.err
+    puts_all p.around p.counts c.args.self.now _ c.args.pass.now s.new.pass refl refl refl refl s.ensures.step s.result c.fault_of-self.ensures s.ensures.cause s.ensures.ok s.ensures.err

@@ -1,4 +1,4 @@
-use Rattle.node_pool.proofs.pool.end_pool.Given as goal
+use Rattle.node_pool.proofs.pool.node_pool.Given as goal
 
 -- what the disk had counted when its hub was made
 abbrev pub ghosts-lac_pool : goal.ghosts-lac_pool
