@@ -1,8 +1,7 @@
 -- How far a pool came, and why it ended.
-use Rattle.std.proofs.Common.{◌≡◌, inl, ℕ, ◌+◌, ◌-◌, ◌<◌, ◌≤◌, ◌^◌, Bool, true, false, List, [], length, map, refl, sym, ap, subst, ◌∙◌, arith}
+use Rattle.std.proofs.Common.{◌≡◌, inl, ℕ, ◌+◌, Bool, true, false, List, [], length, refl, sym, ap, subst, ◌∙◌, arith}
 use Rattle.std.specs.Prelude.{Option, Some, None}
 use Rattle.std.proofs.lemmas.List.{length-map}
-use Rattle.wire_base.specs.Causes.{Rose}
 use Rattle.disk_core.specs.Disk.{Held}
 use Rattle.port_events.specs.declared.giving.TurnFault.{TurnFault}
 use Rattle.port_events.specs.declared.giving.TurnFault.TheVariants as turn
@@ -10,7 +9,6 @@ use Rattle.step_hub.specs.declared.stop.Stop.{Stop}
 use Rattle.step_hub.specs.declared.stop.Stop.TheVariants as stop
 use Rattle.step_hub.specs.declared.stop.StepError.{StepError}
 use Rattle.shared_store.specs.Stops.{Tells, TellsRecords}
-use Rattle.session_workers.specs.Lists.{times}
 use Rattle.session_workers.specs.Items.{numbers_of}
 use Rattle.session_workers.specs.Finishing.{finished_numbers}
 use Rattle.session_workers.specs.Items.{all_parts}
@@ -28,8 +26,6 @@ use Rattle.pool_turns.specs.Turns.{Put, MayBegin, RanTo, BreaksOff}
 use Rattle.pool_turns.proofs.Drawing.{goes_none, draws_none}
 use Rattle.pool_turns.proofs.Following.{is_one_of}
 use Rattle.node_run.specs.declared.faults.NodeFault.{NodeFault}
-use Rattle.node_run.specs.declared.faults.NodeFault.TheVariants as node
-use Rattle.node_run.specs.Faults.{Faults, faults}
 use Rattle.pool_serving.specs.declared.serving.PoolServing.{PoolServing}
 use Rattle.pool_serving.specs.Faults.{AreBlamed}
 use Rattle.pool_serving.specs.Serving.{PoolServes}

@@ -1,5 +1,5 @@
 -- What the cells have to know of the calls that were kept over a start.
-use Rattle.std.specs.Prelude.{◌≡◌, ℕ, nat_lt, if◌then◌else◌, List, [], ◌∷◌, map, false, flat_map}
+use Rattle.std.specs.Prelude.{◌≡◌, ℕ, nat_lt, if◌then◌else◌, List, [], map, false, flat_map}
 use Rattle.wire_base.specs.declared.pair.Pair.{Pair}
 use Rattle.session_looks.specs.declared.look.CellChange.{CellChange}
 use Rattle.end_names.specs.declared.role.Role.{Role}

@@ -1,5 +1,5 @@
 -- What the calling thread does with an item that is finished.
-use Rattle.std.specs.Prelude.{ℕ, ◌+◌, ◌-◌, ◌≡◌, ◌⊎◌, Bool, true, false, List, [], ◌∷◌, take, drop, length, map, Option, Some, None}
+use Rattle.std.specs.Prelude.{ℕ, ◌+◌, ◌-◌, ◌≡◌, ◌⊎◌, Bool, true, false, List, [], ◌∷◌, take, drop, length, map, Option, None}
 use Rattle.wire_base.specs.declared.letter.Side.{Side}
 use Rattle.wire_base.specs.declared.letter.Side.TheVariants.{Sub, Net, Lcp}
 use Rattle.pppoe_session.specs.Subscribers.{holder_of}
