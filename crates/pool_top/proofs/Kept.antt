@@ -3,7 +3,6 @@ use Rattle.std.specs.Prelude.{ℕ, Bool, true, false, List, Option, Ok}
 use Rattle.disk_core.specs.Disk.{Held}
 use Rattle.session_book.specs.declared.record.Record.{Record}
 use Rattle.session_book.specs.Books.{Kept}
-use Rattle.end_store.specs.Records.{fitting, spelled}
 use Rattle.end_store.specs.Stored.{Stored, IsKept}
 use Rattle.end_model.specs.declared.tunnel.Config.{Config}
 use Rattle.lac_core.specs.Cores.{Given}

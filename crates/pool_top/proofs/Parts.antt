@@ -1,5 +1,5 @@
 -- The parts of a run, put together.
-use Rattle.std.proofs.Common.{◌≡◌, inl, inr, ℕ, ◌<◌, Bool, List, length, refl, sym, ap, subst, ◌∙◌}
+use Rattle.std.proofs.Common.{◌≡◌, inr, ℕ, Bool, List, refl, sym, ap, subst, ◌∙◌}
 use Rattle.std.specs.Prelude.{Option, Some, None, option_map, IfSome, Result, Ok, Err}
 use Rattle.rand_core.specs.Stream.{Stream, fill_bytes}
 use Rattle.disk_core.specs.Disk.{Held}
@@ -12,24 +12,22 @@ use Rattle.port_events.specs.Giving.{IsCut}
 use Rattle.port_events.specs.Feeding.{Given, Goes}
 use Rattle.port_turn.specs.Turns.{Waits, Asked, waits, asked}
 use Rattle.held_ports.specs.Around.{Around, around}
-use Rattle.pool_turns.specs.Laws.{datagrams}
 use Rattle.pool_turns.proofs.Following.{puts_all}
 use Rattle.worker_pool.specs.Tallies.{capped}
 use Rattle.worker_pool.specs.declared.tally.Tally.{Tally}
 use Rattle.end_model.specs.declared.tunnel.Config.{Config}
 use Rattle.node_words.specs.Plans.{Planned}
 use Rattle.node_run.specs.declared.end.NodeEnd.{NodeEnd}
-use Rattle.node_run.specs.declared.end.NodeStop.{NodeStop}
 use Rattle.node_run.specs.declared.faults.NodeFault.{NodeFault}
 use Rattle.node_run.specs.declared.faults.NodeFault.TheVariants as node_fault
 use Rattle.node_run.specs.Faults.{Faults, faults}
 use Rattle.node_run.specs.Logs.{Sunk}
 use Rattle.node_run.specs.Opening.{NodeOpens}
 use Rattle.node_top.specs.declared.exit.NodeExit.{NodeExit}
-use Rattle.node_top.specs.Runs.{config_of, of_turn, StayedShut}
+use Rattle.node_top.specs.Runs.{config_of}
 use Rattle.node_pool.specs.Exits.{PoolBlames}
 use Rattle.node_pool.specs.Pools.{RanPool}
-use Rattle.pool_top.specs.Runs.{answer_of, RunBlames, TellsFull, opened_in, Opened, GivesAndRuns, GivesPart, RanFrom, Ran, RanTo}
+use Rattle.pool_top.specs.Runs.{answer_of, RunBlames, TellsFull, GivesAndRuns, GivesPart, RanFrom, Ran, RanTo}
 
 pub same_waits : (l k : Option (List Datagram)) (e f : Option (List (List ℕ))) (u v : Option (List LowerFrame)) → l ≡ k → e ≡ f → u ≡ v → waits l e u ≡ waits k f v
 same_waits l k e f u v link ether up = rw (link, ether, up) refl
