@@ -43,13 +43,6 @@ impl Gate for NoGate {
     fn after(&self, _number: u64) {}
 }
 
-fn rest_of(command: Command) -> i32 {
-    match command {
-        Command::Node => REST,
-        Command::Pool => POOL_REST,
-    }
-}
-
 /// The status where the seed can't be read.
 const SEED_FAULT: u8 = 14;
 
@@ -118,12 +111,53 @@ struct Places {
     uplink: Option<String>,
 }
 
-/// Runs the words over the objects at these places. Each is opened at its first call, so that words without a plan touch none. The first
-/// fault of one of them ends the run, so at most one has an error of the system to tell.
-fn run_over<T: Threads + Wait + Sync>(
+/// Tells a log the system's words for the fault that ended a run, where there was one.
+fn tell_last<K: Sink>(alloc: Global, log: &mut K, error: Option<io::Error>) {
+    if let Some(error) = error {
+        tell_error(alloc, log, error);
+    }
+}
+
+/// Runs the words of a node over the objects at these places. Each is opened at its first call, so that words without a plan touch none. The
+/// first fault of one of them ends the run, so at most one has an error of the system to tell.
+fn run_node(rt: &HostRuntime, words: &[String], places: Places, generator: ChaCha20Rng) -> u8 {
+    let alloc = rt.alloc();
+    let watch = Watch::new();
+    let Ok(mut ether) = ether_at(alloc, rt, &watch, places.ether) else {
+        return NodeExit::NoMemory.status();
+    };
+    let Ok(mut uplink) = uplink_at(alloc, rt, &watch, places.uplink) else {
+        return NodeExit::NoMemory.status();
+    };
+    let mut link = watch.link(UdpLink::new(rt, places.listen, places.port));
+    let mut disk = FileDisk::new(rt, places.store);
+    let mut clock = RestingClock::new(StdClock::new(rt), &watch, REST);
+    let mut generator = generator;
+    let mut sink = StdSink::new(rt.stdout());
+    let mut log = StdSink::new(rt.stderr());
+    let exit = node_top(
+        alloc,
+        words,
+        VERSION,
+        &mut link,
+        &mut ether,
+        &mut uplink,
+        &mut disk,
+        &mut clock,
+        &mut generator,
+        &mut sink,
+        &mut log,
+    );
+    let error = disk.last_error().or(link.port().last_error());
+    let error = error.or(ether_error(&ether)).or(uplink_error(&uplink));
+    tell_last(alloc, &mut log, error);
+    exit.status()
+}
+
+/// Runs the words of a pool over the objects at these places, which are opened and tell their errors as a node's.
+fn run_pool<T: Threads + Wait + Sync>(
     rt: &HostRuntime,
     threads: &T,
-    command: Command,
     words: &[String],
     places: Places,
     generator: ChaCha20Rng,
@@ -141,42 +175,36 @@ fn run_over<T: Threads + Wait + Sync>(
         link: watch.link(UdpLink::new(rt, places.listen, places.port)),
         ether,
         up,
-        clock: RestingClock::new(StdClock::new(rt), &watch, rest_of(command)),
+        clock: RestingClock::new(StdClock::new(rt), &watch, POOL_REST),
         rng: generator,
     };
-    let mut disk = FileDisk::new(rt, places.store);
+    let disk = FileDisk::new(rt, places.store);
     let mut sink = StdSink::new(rt.stdout());
     let mut log = StdSink::new(rt.stderr());
-    let exit = match command {
-        Command::Node => node_top(
-            alloc,
-            words,
-            VERSION,
-            &mut ports.link,
-            &mut ports.ether,
-            &mut ports.up,
-            &mut disk,
-            &mut ports.clock,
-            &mut ports.rng,
-            &mut sink,
-            &mut log,
-        ),
-        Command::Pool => {
-            let pooled = pool_top(
-                threads, alloc, words, VERSION, &mut ports, disk, &mut sink, &mut log, &NoGate,
-            );
-            disk = pooled.disk;
-            pooled.exit
-        }
-    };
-    let error = disk.last_error().or(ports.link.port().last_error());
+    let pooled = pool_top(
+        threads, alloc, words, VERSION, &mut ports, disk, &mut sink, &mut log, &NoGate,
+    );
+    let error = pooled.disk.last_error().or(ports.link.port().last_error());
     let error = error
         .or(ether_error(&ports.ether))
         .or(uplink_error(&ports.up));
-    if let Some(error) = error {
-        tell_error(alloc, &mut log, error);
+    tell_last(alloc, &mut log, error);
+    pooled.exit.status()
+}
+
+/// Runs the words over the objects at these places.
+fn run_over<T: Threads + Wait + Sync>(
+    rt: &HostRuntime,
+    threads: &T,
+    command: Command,
+    words: &[String],
+    places: Places,
+    generator: ChaCha20Rng,
+) -> u8 {
+    match command {
+        Command::Node => run_node(rt, words, places, generator),
+        Command::Pool => run_pool(rt, threads, words, places, generator),
     }
-    exit.status()
 }
 
 /// The line of a seed that can't be read.
