@@ -1,10 +1,10 @@
 -- Whom an end hands frames up to, and tells that their calls ended, and what its turns give to the ports by that.
-use Rattle.std.specs.Prelude.{ℕ, ◌≡◌, Bool, true, false, List, ◌∷◌, ◌++◌, map, Option, Some, None}
+use Rattle.std.specs.Prelude.{ℕ, ◌≡◌, Bool, true, false, List, ◌∷◌, ◌++◌, map, Option, Some, None, is_none}
 use Rattle.wire_base.specs.declared.letter.Side.{Side}
 use Rattle.wire_base.specs.declared.letter.Side.TheVariants.{Sub, Net, Lcp}
 use Rattle.pppoe_wire.specs.Spelling.{Head}
 use Rattle.pppoe_session.specs.declared.Subscriber.{Subscriber}
-use Rattle.pppoe_session.specs.Subscribers.{subscriber, holder_of, dropped}
+use Rattle.pppoe_session.specs.Subscribers.{subscriber, subscriber_of, holder_of, dropped}
 use Rattle.end_names.specs.Names.{mac_of}
 use Rattle.end_model.specs.declared.out.Out.{Out}
 use Rattle.end_model.specs.declared.out.Out.TheVariants as given
@@ -32,6 +32,11 @@ KeepsTold old new = (session : ℕ) (mac : List ℕ) → holder_of old.told sess
 abbrev pub held_with : List (ℕ × Subscriber) → Option ℕ → List ℕ → Option (List ℕ) → List (ℕ × Subscriber)
 held_with es None mac uniq = es
 held_with es (Some session) mac uniq = holds es session (subscriber mac uniq)
+
+-- whether it is given: where one is drawn, and nobody holds it
+abbrev pub gives_some : List (ℕ × Subscriber) → Option ℕ → Bool
+gives_some es None = false
+gives_some es (Some session) = is_none (subscriber_of es session)
 
 abbrev pub let_go_of : Bool → Option ℕ → List (ℕ × Subscriber) → List (ℕ × Subscriber)
 let_go_of true (Some session) es = dropped es session

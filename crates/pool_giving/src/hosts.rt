@@ -1,9 +1,9 @@
 //! Whom an end hands frames up to.
 
-ghost use Rattle.std.specs.Prelude.{◌≡◌, [], OnOk, OnErr, None};
+ghost use Rattle.std.specs.Prelude.{◌≡◌, [], OnOk, OnErr, IfOk, None};
 ghost use Rattle.pppoe_session.specs.Subscribers.{holder_of, subscriber};
 ghost use Rattle.end_model.specs.Access.{holder, holds, forgets, farewell};
-ghost use Rattle.pool_giving.specs.Hosts.{KeepsTold, held_with, let_go_of};
+ghost use Rattle.pool_giving.specs.Hosts.{KeepsTold, held_with, gives_some, let_go_of};
 
 use end_names::mac_of;
 use lac_core::LacAccess;
@@ -83,6 +83,7 @@ impl Hosts {
     ) -> Result<bool, NoMemory>
         ensures others { (self.new.number ≡ self.old.number) × (self.new.told ≡ self.old.told) × (self.new.access.kept ≡ self.old.access.kept) }
         ensures held { OnOk result (self.new.access.held ≡ held_with self.old.access.held session mac uniq.now) }
+        ensures gave { IfOk result (λ gave. gave ≡ gives_some self.old.access.held session) }
         ensures err { OnErr result (self.new ≡ self.old) }
     {
         let Some(session) = session else {

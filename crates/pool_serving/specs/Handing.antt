@@ -36,7 +36,7 @@ host_by Dead told = None
 abbrev pub host_of : Hosted → List Entry → ℕ → Option (List ℕ)
 host_of h log session = host_by (look_after log session) (holder_of h.told session)
 
--- this goes to the ports; or nothing does, where the pool stops for want of memory
+-- This goes to the ports; or nothing does, once something has stopped the pool, as want of memory for a frame to a subscriber does.
 abbrev pub GivesOr : Bool → List Going → Around → Around → Type 0
 GivesOr false outs old new = Gives outs old new
 GivesOr true outs old new = Gives outs old new ⊎ Gives [] old new

@@ -8,8 +8,33 @@ use crate::pass::PoolPass;
 use crate::pool::Pool;
 use crate::work::{hand_over, work_one};
 use session_workers::{Finished, Gate, Worked};
+use std::hint;
 use std::sync::Wait;
 use step_hub::Hub;
+
+/// How often a worker that found nothing looks again before it sleeps. That takes about as long as to wake it.
+const LOOKS: u32 = 512;
+
+/// Works the next item, for which it looks some hundred times.
+fn look<W: Wait, H: Hub, G: Gate>(
+    rt: &W,
+    pool: &Pool<H>,
+    pass: &mut PoolPass,
+    gate: &G,
+) -> Option<Finished>
+    requires { IsMember pool.now pass.old }
+    ensures of { IsMember pool.now pass.new }
+    ensures same { (gave_of pass.new.pass ≡ gave_of pass.old.pass) × (got_of pass.new.pass ≡ got_of pass.old.pass) × HasParts pass.old pass.new }
+    ensures took { TookOne pass.old pass.new result }
+{
+    for _ in 0..LOOKS {
+        if let Worked::Done(finished) = work_one(rt, pool, pass, gate) {
+            return Some(finished);
+        }
+        hint::spin_loop();
+    }
+    None
+}
 
 /// Looks once more, as one that has entered, and sleeps where it found nothing and the pool isn't closed. Then an item may wait again.
 fn rest<W: Wait, H: Hub, G: Gate>(
@@ -51,7 +76,7 @@ fn next<W: Wait, H: Hub, G: Gate>(
 {
     for _ in rt.forever() {
         let closed = pool.is_closed();
-        if let Worked::Done(finished) = work_one(rt, pool, pass, gate) {
+        if let Some(finished) = look(rt, pool, pass, gate) {
             return Some(finished);
         }
         if closed {
